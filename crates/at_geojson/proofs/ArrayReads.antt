@@ -20,7 +20,7 @@ use Rattle.at_geojson.specs.Gathering.{firsts, is_object, least_of, are_all, ran
 use Rattle.at_geojson.proofs.Each.{EachIs, twins_items}
 use Rattle.at_geojson.proofs.ArrayFolds.{HasNoForm, AreForms, IsArrayAtom}
 use Rattle.at_geojson.proofs.ItemFolds.{one_each, trees_of_items}
-use Rattle.at_geojson.proofs.MixedFolds.{forms_all, forms_read}
+use Rattle.at_geojson.proofs.MixedFolds.{forms_of, forms_all, forms_read}
 use Rattle.at_geojson.proofs.SortFacts.{all_sorted, no_other, no_objects}
 use Rattle.at_geojson.proofs.CoordinateFolds.{alike_at, some_numbers, some_positions, some_lines, some_areas, no_position, no_points, no_lists, no_area, no_areas, position_is, points_are, lists_are, areas_are}
 
@@ -41,7 +41,7 @@ module _ (asked : Asked) where
     least = least_of (a ∷ aa)
 
     array_read : (r : GeoAtom) → IsArrayAtom asked r at least → list_any is_object (a ∷ aa) ≡ false → AreForms asked at ts r → IsRead asked r t
-    array_read r k n f = forms_read asked r at least ts k (subst (HaveItems asked (no_roles least)) (trees_of_items ts) (forms_all asked a aa (items_of ts) (one_each (IsRead asked) (IsRun asked) (a ∷ aa) ts h) n)) f
+    array_read r k n f = forms_read asked r at least ts k (subst (HaveItems asked (no_roles least)) (trees_of_items ts) (forms_all asked a aa (items_of ts) (one_each (IsRead asked) (IsRun asked) (a ∷ aa) ts h) (forms_of (a ∷ aa) n))) f
 
     -- the items are not all of the sort of this rank
     not_all : (j k : ℕ) → rank (sort_of_all (a ∷ aa)) ≡ j → (j ≡ k → ⊥) → are_all k (a ∷ aa) ≡ false

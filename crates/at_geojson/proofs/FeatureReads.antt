@@ -1,6 +1,6 @@
 -- Objects that are read at once, of whose members no atom is made: what is told of them is what the fields and the texts of
 -- their atoms say. For `value` and `items`.
-use Rattle.std.proofs.Common.{◌≡◌, inl, inr, ℕ, ◌+◌, ◌<◌, true, false, List, [], ◌∷◌, ◌++◌, length, slice_index, Some, None, Ok, refl, sym, ◌∙◌, ap, subst}
+use Rattle.std.proofs.Common.{◌≡◌, inl, inr, ℕ, ◌+◌, ◌<◌, true, false, List, [], ◌∷◌, ◌++◌, length, slice_index, Some, None, Ok, refl, sym, ◌∙◌, ap, subst, arith}
 use Rattle.std.specs.List.{list_any}
 use denote.RawPtr.{null_ptr}
 use Rattle.std.proofs.lemmas.Bool.{true≢false}
@@ -33,7 +33,7 @@ use Rattle.at_geojson.specs.Atoms.{twin_of, as_text, IfOwnShape, IfOwnPart, IsOw
 use Rattle.at_geojson.specs.Objects.{feature_shape, texts_in, texts_named, kept_texts, JoinsFeature}
 use Rattle.at_geojson.specs.Fields.{put_if, value_in, kind_in_fields, IsRoleIn}
 use Rattle.at_geojson.specs.Values.{IsWhole}
-use Rattle.at_geojson.specs.Members.{EndsFields}
+use Rattle.at_geojson.specs.Members.{IsRoleless, EndsFields}
 use Rattle.at_geojson.specs.PlainGeometries.{IsKindRead, IsSeen, Sees}
 use Rattle.at_geojson.specs.Features.{IsShapeRead, IsTested, ReadsProperties, IsGeometryOf, AreMembersOf, IsValueRead, IsMemberRead, ReadsOne, AreRead, NameNoKind, MeetsTexts, NamesNoKind, PassesMember, ReadsVoid, IsTexted, EndsFeature, IsFeatureRead}
 use Rattle.at_geojson.proofs.FieldFolds.{own_feature}
@@ -202,9 +202,9 @@ module _ (asked : Asked) (base : ℕ) (w : List ℕ) where
   texted_atom at [] = atoms.Void at
   texted_atom at (p ∷ ps) = atoms.Object (record { at = at; roles = record { ptr = null_ptr; alloc = heap; value = record { role = roles.Nothing; texts = p ∷ ps } } })
 
-  texted_twin : (at : ℕ) (texts : List TextPair) → twin_of (texted_atom at texts) ≡ None
-  texted_twin at [] = refl
-  texted_twin at (p ∷ ps) = refl
+  texted_roleless : (at : ℕ) (texts : List TextPair) → IsRoleless (texted_atom at texts)
+  texted_roleless at [] = record { no_twin = refl; single = refl; no_role = refl; sort = omega arith }
+  texted_roleless at (p ∷ ps) = record { no_twin = refl; single = refl; no_role = refl; sort = omega arith }
 
   texted_has : (at : ℕ) (texts : List TextPair) → texts_in (texted_atom at texts) ≡ Ok texts
   texted_has at [] = refl
@@ -219,7 +219,7 @@ module _ (asked : Asked) (base : ℕ) (w : List ℕ) where
     atom = texted_atom (base + at) [];
     whole = void_read asked base w at end (record { end = end + 1; atom = texted_atom (base + at) [] }) h inside opens closes spaces
         (ends_fields asked base w (base + at) (end + 1) no_fields [] [] (record { end = end + 1; atom = texted_atom (base + at) [] }) (texted_ends (base + at) (end + 1) no_fields [] refl) none_are refl refl);
-    no_twin = refl;
+    roleless = texted_roleless (base + at) [];
     texts = [];
     has = refl;
     met = sym (none_met asked.query.tests);
@@ -249,7 +249,7 @@ module _ (asked : Asked) (base : ℕ) (w : List ℕ) where
         record {
           atom = texted_atom (base + at) texts;
           whole = reading_ends at place old new (NameNoKind before.named) (NameNoKind after.named) n end r plain same void_reads q h opens name inside closes (texted_ends (base + at) (end + 1) m.fields texts m.are.no_kind);
-          no_twin = texted_twin (base + at) texts;
+          roleless = texted_roleless (base + at) texts;
           texts = texts;
           has = texted_has (base + at) texts;
           met = void_met;

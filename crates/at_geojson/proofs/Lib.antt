@@ -25,6 +25,7 @@ pub mod FieldFolds
 pub mod ObjectAnswers
 pub mod ObjectReads
 pub mod Tiers
+pub mod RolelessArrays
 pub mod Roots
 pub mod ValueParts
 pub mod PassedPairs

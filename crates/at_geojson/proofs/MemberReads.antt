@@ -134,8 +134,8 @@ module _ (asked : Asked) (base : ℕ) (w : List ℕ) where
 
   -- of one that was passed over nothing is put there
   pub field_passed : (at end : ℕ) (field : Field) (fields : Fields) → field ≡ variants.Other → PassesItem asked w at end → IsFieldRead asked base w at field fields fields end
-  field_passed at end field fields e pass = let (a, item, none) = pass base in
-      subst (λ z. IsFieldRead asked base w at z fields fields end) (sym e) (record { atom = a; item = item; no_twin = none; kind = refl; coordinates = refl; geometry = refl; properties = refl; features = refl; geometries = refl })
+  field_passed at end field fields e pass = let (a, item, plain) = pass base in
+      subst (λ z. IsFieldRead asked base w at z fields fields end) (sym e) (record { atom = a; item = item; no_twin = plain.no_twin; kind = refl; coordinates = refl; geometry = refl; properties = refl; features = refl; geometries = refl })
 
   pub longer_twins : (at place : ℕ) (old new : OtherNames) (fields : Fields) (n : NamePlace) (p : Whole) (longer : Fields) (l : LongerFields at place old new fields n p longer) → member_twins [] (l.before.members ++ member_of asked base w n (name_in w n) p.atom ∷ []) ≡ None
   longer_twins at place old new fields n p longer l = no_twin_more [] l.before.members (member_of asked base w n (name_in w n) p.atom) l.before.no_twin l.absent l.value

@@ -1,9 +1,10 @@
 -- Arrays whose items are not all of one sort, some of which may stand for several values.
 -- For `add`, `array` and `value`.
-use Rattle.std.proofs.Common.{◌≡◌, ◌≢◌, length, inl, inr, ℕ, suc, ◌≤◌, ◌==◌, min, fold, Bool, true, false, ◌&&◌, List, [], ◌∷◌, ◌++◌, Option, Some, None, refl, sym, ◌∙◌, ap, subst, append-nil, append_assoc, option_map, option_and_then, arith}
+use Rattle.std.proofs.Common.{◌≡◌, ◌≢◌, length, inl, inr, ℕ, suc, ◌≤◌, ◌==◌, min, fold, Bool, true, false, ◌&&◌, List, [], ◌∷◌, ◌++◌, All, Option, Some, None, refl, sym, ◌∙◌, ap, subst, append-nil, append_assoc, option_map, option_and_then, arith}
 use Rattle.std.specs.List.{list_all, list_any}
 use Rattle.std.proofs.Math.Nat.{min-eq_left}
 use Rattle.std.proofs.lemmas.Bool.{true≢false, or_parts}
+use Rattle.std.proofs.lemmas.List.Elements.{All-nil, All-cons, All-head, All-tail}
 use Rattle.at_text.specs.Faults.{fault_at}
 use Rattle.at_text.specs.declared.faults.FaultKind.TheVariants.{Form}
 use Rattle.at_nest.specs.Folds.{trees, Covers, AreItemFolds}
@@ -30,16 +31,19 @@ use Rattle.at_geojson.proofs.ListRoles.{none_here, none_front, none_back, no_eac
 
 -- ---- atoms
 
--- an atom without an object is Form in both roles
-pub form_geometries : (a : GeoAtom) → is_object a ≡ false → (no_roles (at_of a)).geometries ≡ item_geometries a
-form_geometries (atoms.Object x) e = absurd (true≢false e)
-form_geometries (atoms.Run x) e = absurd (true≢false e)
-form_geometries _ e = refl
+-- an atom that is Form in both roles
+abbrev pub IsForm : GeoAtom → Type 0
+IsForm a = ((no_roles (at_of a)).geometries ≡ item_geometries a) × ((no_roles (at_of a)).features ≡ item_features a)
 
-pub form_features : (a : GeoAtom) → is_object a ≡ false → (no_roles (at_of a)).features ≡ item_features a
-form_features (atoms.Object x) e = absurd (true≢false e)
-form_features (atoms.Run x) e = absurd (true≢false e)
-form_features _ e = refl
+-- one without an object
+pub form_of : (a : GeoAtom) → is_object a ≡ false → IsForm a
+form_of (atoms.Object x) e = absurd (true≢false e)
+form_of (atoms.Run x) e = absurd (true≢false e)
+form_of _ e = (refl, refl)
+
+pub forms_of : (aa : List GeoAtom) → list_any is_object aa ≡ false → All IsForm aa
+forms_of [] e = All-nil IsForm
+forms_of (a ∷ aa) e = let none = or_parts (is_object a) (list_any is_object aa) e in All-cons IsForm a aa (form_of a none.0) (forms_of aa none.1)
 
 -- ---- Form of both of two
 
@@ -53,23 +57,21 @@ module _ (asked : Asked) where
   pub forms_both : (us vs : List Tree) (m n : ℕ) → HaveItems asked (no_roles m) (trees us) → HaveItems asked (no_roles n) (trees vs) → HaveItems asked (no_roles (min m n)) (trees (us ++ vs))
   forms_both us vs m n h k = have_both asked us vs (no_roles m) (no_roles n) (no_roles (min m n)) (shapes_form m n) (features_form m n) h k
 
-  pub form_covers : (a : GeoAtom) (us : List Tree) → is_object a ≡ false → Covers (IsRead asked) (IsRun asked) a us → HaveItems asked (no_roles (at_of a)) (trees us)
-  form_covers a us e c = have_covers asked a us (no_roles (at_of a)) (form_geometries a e) (form_features a e) c
+  pub form_covers : (a : GeoAtom) (us : List Tree) → IsForm a → Covers (IsRead asked) (IsRun asked) a us → HaveItems asked (no_roles (at_of a)) (trees us)
+  form_covers a us e c = have_covers asked a us (no_roles (at_of a)) e.0 e.1 c
 
-  forms_more : (us : List Tree) (m : ℕ) (aa : List GeoAtom) (vs : List Tree) → HaveItems asked (no_roles m) (trees us) → AreItemFolds (IsRead asked) (IsRun asked) aa vs → list_any is_object aa ≡ false
+  forms_more : (us : List Tree) (m : ℕ) (aa : List GeoAtom) (vs : List Tree) → HaveItems asked (no_roles m) (trees us) → AreItemFolds (IsRead asked) (IsRun asked) aa vs → All IsForm aa
       → HaveItems asked (no_roles (fold (λ least a. min least (at_of a)) m aa)) (trees (us ++ vs))
   forms_more us m [] vs h f e = subst (λ z. HaveItems asked (no_roles m) (trees z)) (sym (ap (λ z. us ++ z) f ∙ append-nil us)) h
   forms_more us m (a ∷ aa) vs h (ps, qs, s, c, f) e =
-      let none = or_parts (is_object a) (list_any is_object aa) e in
       subst (λ z. HaveItems asked (no_roles (fold (λ least b. min least (at_of b)) (min m (at_of a)) aa)) (trees z)) (append_assoc us ps qs ∙ ap (λ z. us ++ z) (sym s))
-      (forms_more (us ++ ps) (min m (at_of a)) aa qs (forms_both us ps m (at_of a) h (form_covers a ps none.0 c)) f none.1)
+      (forms_more (us ++ ps) (min m (at_of a)) aa qs (forms_both us ps m (at_of a) h (form_covers a ps (All-head IsForm a aa e) c)) f (All-tail IsForm a aa e))
 
-  pub forms_all : (a : GeoAtom) (aa : List GeoAtom) (ts : List Tree) → AreItemFolds (IsRead asked) (IsRun asked) (a ∷ aa) ts → list_any is_object (a ∷ aa) ≡ false → HaveItems asked (no_roles (least_of (a ∷ aa))) (trees ts)
+  pub forms_all : (a : GeoAtom) (aa : List GeoAtom) (ts : List Tree) → AreItemFolds (IsRead asked) (IsRun asked) (a ∷ aa) ts → All IsForm (a ∷ aa) → HaveItems asked (no_roles (least_of (a ∷ aa))) (trees ts)
   forms_all a aa ts (ps, qs, s, c, f) e =
-      let none = or_parts (is_object a) (list_any is_object aa) e in
       let l : min (at_of a) (at_of a) ≡ at_of a = (let k : at_of a ≤ at_of a = omega arith in min-eq_left k) in
       subst (λ n. HaveItems asked (no_roles (fold (λ least b. min least (at_of b)) n aa)) (trees ts)) (sym l)
-      (subst (λ z. HaveItems asked (no_roles (fold (λ least b. min least (at_of b)) (at_of a) aa)) (trees z)) (sym s) (forms_more ps (at_of a) aa qs (form_covers a ps none.0 c) f none.1))
+      (subst (λ z. HaveItems asked (no_roles (fold (λ least b. min least (at_of b)) (at_of a) aa)) (trees z)) (sym s) (forms_more ps (at_of a) aa qs (form_covers a ps (All-head IsForm a aa e) c) f (All-tail IsForm a aa e)))
 
   -- ---- items that are not all of one sort
 
@@ -153,7 +155,7 @@ module _ (asked : Asked) where
       → IsRead asked (atoms.Other (record { at = at; least = least_of (a ∷ aa) })) (array at (trees ts))
   other_read at a aa ts h f n = forms_read (atoms.Other (record { at = at; least = least_of (a ∷ aa) })) at (least_of (a ∷ aa)) (trees ts)
       (record { at_is = refl; twin = refl; single = refl; null = refl; empty = refl; kind = refl; text = refl; number = refl; role = refl; texts = refl; geometries = refl; features = refl })
-      (forms_all a aa ts h n) (forms_none asked at (trees ts) (atoms.Other (record { at = at; least = least_of (a ∷ aa) })) refl refl refl refl refl f)
+      (forms_all a aa ts h (forms_of (a ∷ aa) n)) (forms_none asked at (trees ts) (atoms.Other (record { at = at; least = least_of (a ∷ aa) })) refl refl refl refl refl f)
 
   pub made_read : (at : ℕ) (a : GeoAtom) (aa : List GeoAtom) (r : GeoAtom) (ts : List Tree) → AreItemFolds (IsRead asked) (IsRun asked) (a ∷ aa) ts → HasNoForm asked at (trees ts) → MakesItems asked at (a ∷ aa) r
       → IsRead asked r (array at (trees ts))

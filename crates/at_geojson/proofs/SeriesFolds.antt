@@ -36,7 +36,7 @@ use Rattle.at_geojson.proofs.OwnFolds.{all_kept, path_in_range}
 use Rattle.at_geojson.proofs.ItemFolds.{last_covers}
 use Rattle.at_geojson.proofs.RunFolds.{items_of_trees, first_twins, twins_covers}
 use Rattle.at_geojson.proofs.ListRoles.{each_append, no_each, list_no_number, list_no_position, list_no_area}
-use Rattle.at_geojson.proofs.MixedFolds.{forms_both, form_covers, forms_read}
+use Rattle.at_geojson.proofs.MixedFolds.{form_of, forms_both, form_covers, forms_read}
 
 -- ---- atoms that are lists
 
@@ -116,7 +116,7 @@ module _ (asked : Asked) where
           lists = p ∷ [];
           are = ap (each positions_of) e ∙ ap (λ o. option_and_then (λ y. option_map (λ ys. y ∷ ys) (Some [])) o) ep;
           area = one_list a p x n ex i;
-          have = form_covers asked a ts (list_no_object a k) (inl (t, e, f.read twins));
+          have = form_covers asked a ts (form_of a (list_no_object a k)) (inl (t, e, f.read twins));
         }
   list_covers a ts k (inr (inl (run, e, j))) = absurd (true≢false (sym k ∙ ap is_list e))
   list_covers a ts k (inr (inr (inr (t, e, j)))) = absurd (true≢false (sym k ∙ ap is_list e))

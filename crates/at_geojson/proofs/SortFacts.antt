@@ -1,6 +1,6 @@
 -- Which items have which role, told by the sort of all of them.
 -- For `add`, `array`, `object` and `value`.
-use Rattle.std.proofs.Common.{◌≡◌, ℕ, suc, ◌==◌, Bool, true, false, ◌||◌, if◌then◌else◌, List, [], ◌∷◌, None, is_some, refl, sym, ◌∙◌, ap, arith}
+use Rattle.std.proofs.Common.{◌≡◌, ℕ, suc, ◌≤◌, ◌==◌, Bool, true, false, ◌||◌, if◌then◌else◌, List, [], ◌∷◌, None, is_some, refl, sym, ◌∙◌, ap, arith}
 use Rattle.std.specs.List.{list_any}
 use Rattle.std.proofs.lemmas.Bool.{true≢false, eqb-true, and_parts}
 use Rattle.std.proofs.lemmas.Option.{none-some}
@@ -46,6 +46,13 @@ all_sorted k (a ∷ aa) e = go (are_all (rank (sort_of a)) (a ∷ aa)) refl wher
   go : (b : Bool) → are_all (rank (sort_of a)) (a ∷ aa) ≡ b → are_all (suc k) (a ∷ aa) ≡ true
   go true h = let s : rank (sort_of a) ≡ suc k = ap (λ b. rank (if b then sort_of a else sorts.Other)) (sym h) ∙ e in ap (λ r. are_all r (a ∷ aa)) (sym s) ∙ h
   go false h = absurd (let z : 0 ≡ suc k = ap (λ b. rank (if b then sort_of a else sorts.Other)) (sym h) ∙ e in omega (arith, z))
+
+-- their rank is that of the first, or the least
+pub sort_few : (a : GeoAtom) (aa : List GeoAtom) → rank (sort_of a) ≤ 1 → rank (sort_of_all (a ∷ aa)) ≤ 1
+sort_few a aa h = go (are_all (rank (sort_of a)) (a ∷ aa)) where
+  go : (b : Bool) → rank (if b then sort_of a else sorts.Other) ≤ 1
+  go true = h
+  go false = omega arith
 
 -- and of no other
 pub sort_is : (k : ℕ) (a : GeoAtom) (aa : List GeoAtom) → are_all k (a ∷ aa) ≡ true → rank (sort_of_all (a ∷ aa)) ≡ k

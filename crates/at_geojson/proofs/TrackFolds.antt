@@ -40,7 +40,7 @@ use Rattle.at_geojson.proofs.OwnFolds.{all_kept, position_in}
 use Rattle.at_geojson.proofs.ItemFolds.{last_covers}
 use Rattle.at_geojson.proofs.RunFolds.{items_of_trees, first_twins, twins_covers}
 use Rattle.at_geojson.proofs.ListRoles.{each_append, no_each, position_no_number, position_no_list, position_no_area}
-use Rattle.at_geojson.proofs.MixedFolds.{forms_both, form_covers, forms_read}
+use Rattle.at_geojson.proofs.MixedFolds.{form_of, forms_both, form_covers, forms_read}
 
 -- ---- atoms that are positions
 
@@ -145,7 +145,7 @@ module _ (asked : Asked) where
           rest = [];
           are = ap (each position_of) e ∙ ap (λ o. option_and_then (λ y. option_map (λ ys. y ∷ ys) (Some [])) o) ep;
           track = one_position a p x n ex i;
-          have = form_covers asked a ts (position_no_object a k) (inl (t, e, f.read twins));
+          have = form_covers asked a ts (form_of a (position_no_object a k)) (inl (t, e, f.read twins));
         }
   position_covers a ts k (inr (inl (run, e, j))) = absurd (true≢false (sym k ∙ ap is_position e))
   position_covers a ts k (inr (inr (inl (s, e, j)))) = absurd (true≢false (sym k ∙ ap is_position e))

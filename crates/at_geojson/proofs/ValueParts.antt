@@ -47,7 +47,7 @@ use Rattle.at_geojson.specs.declared.coordinates.pairs.Plain.{Plain}
 use Rattle.at_geojson.specs.declared.coordinates.pairs.PairRead.{PairRead}
 use Rattle.at_geojson.specs.Atoms.{twin_of, at_of, IsOwn, IsFold, as_text, unboxed, asked_units}
 use Rattle.at_geojson.specs.Gathering.{firsts, are_all, rank, sort_of, sort_of_all, least_of, pair_atom}
-use Rattle.at_geojson.specs.Members.{IsScalarAt}
+use Rattle.at_geojson.specs.Members.{IsScalarAt, IsRoleless}
 use Rattle.at_geojson.specs.Values.{IsPlain, IsPair, IsSpacedPair, IsWhole, IsItem, AreItemsRead, AreMembersRead, EndsArray, EndsObject}
 use Rattle.at_geojson.proofs.Firsts.{firsts-cons}
 use Rattle.at_geojson.proofs.ScalarFolds.{number_found, number_folds, own_number, text_folds, null_folds, plain_folds, bad_number_at}
@@ -135,7 +135,7 @@ module _ (asked : Asked) (base : ℕ) (w : List ℕ) where
   record IsPassed (at end : ℕ) : Type 0 where
     pub atom : GeoAtom
     pub whole : IsWhole asked base w at (record { end = end; atom = atom })
-    pub no_twin : twin_of atom ≡ None
+    pub roleless : IsRoleless atom
 
   module _ (at end : ℕ) (order : at < end) (within : end ≤ length w) where
     pub text_whole : (cs : List Character) → AreCharacters cs → between w at end ≡ characters_text cs → IsWhole asked base w at (record { end = end; atom = text_kind asked (base + at) cs })
@@ -144,19 +144,19 @@ module _ (asked : Asked) (base : ℕ) (w : List ℕ) where
         record { order = order; within = within; own = tt; tree = text (base + at) cs; spells = (refl, (j, e)); fold = text_folds asked a cs refl (out_of_boxes (asked_units asked.query.tests (units_of cs))) }
 
     passed_text : JsonString (between w at end) → IsPassed at end
-    passed_text (cs, j, e) = record { atom = text_kind asked (base + at) cs; whole = text_whole cs j e; no_twin = refl }
+    passed_text (cs, j, e) = record { atom = text_kind asked (base + at) cs; whole = text_whole cs j e; roleless = record { no_twin = refl; single = refl; no_role = refl; sort = omega arith } }
 
     passed_literal : (l : Literal) → between w at end ≡ literal_text l → IsPassed at end
-    passed_literal the_null e = record { atom = atoms.Null (base + at); whole = record { order = order; within = within; own = tt; tree = literal (base + at) the_null; spells = (refl, e); fold = null_folds asked (base + at) }; no_twin = refl }
-    passed_literal the_true e = record { atom = atoms.Plain (base + at); whole = record { order = order; within = within; own = tt; tree = literal (base + at) the_true; spells = (refl, e); fold = plain_folds asked (base + at) the_true (λ n. cc) }; no_twin = refl }
-    passed_literal the_false e = record { atom = atoms.Plain (base + at); whole = record { order = order; within = within; own = tt; tree = literal (base + at) the_false; spells = (refl, e); fold = plain_folds asked (base + at) the_false (λ n. cc) }; no_twin = refl }
+    passed_literal the_null e = record { atom = atoms.Null (base + at); whole = record { order = order; within = within; own = tt; tree = literal (base + at) the_null; spells = (refl, e); fold = null_folds asked (base + at) }; roleless = record { no_twin = refl; single = refl; no_role = refl; sort = omega arith } }
+    passed_literal the_true e = record { atom = atoms.Plain (base + at); whole = record { order = order; within = within; own = tt; tree = literal (base + at) the_true; spells = (refl, e); fold = plain_folds asked (base + at) the_true (λ n. cc) }; roleless = record { no_twin = refl; single = refl; no_role = refl; sort = omega arith } }
+    passed_literal the_false e = record { atom = atoms.Plain (base + at); whole = record { order = order; within = within; own = tt; tree = literal (base + at) the_false; spells = (refl, e); fold = plain_folds asked (base + at) the_false (λ n. cc) }; roleless = record { no_twin = refl; single = refl; no_role = refl; sort = omega arith } }
 
     passed_number : (n : Numeral) → Spells (base + at) (between w at end) (number (base + at) n) → IsPassed at end
     passed_number n s = go (fixed_of n asked.digits asked.how) refl where
       go : (r : Result ℤ FixedFault) → r ≡ fixed_of n asked.digits asked.how → IsPassed at end
       go (Ok v) e = let a : NumberAtom = record { at = base + at; value = v } in
-          record { atom = atoms.Number a; whole = record { order = order; within = within; own = own_number asked a n e; tree = number (base + at) n; spells = s; fold = number_folds asked a n e }; no_twin = refl }
-      go (Err why) e = record { atom = atoms.BadNumber (fault_of why (base + at)); whole = record { order = order; within = within; own = tt; tree = number (base + at) n; spells = s; fold = bad_number_at asked (base + at) n why e }; no_twin = refl }
+          record { atom = atoms.Number a; whole = record { order = order; within = within; own = own_number asked a n e; tree = number (base + at) n; spells = s; fold = number_folds asked a n e }; roleless = record { no_twin = refl; single = refl; no_role = refl; sort = omega arith } }
+      go (Err why) e = record { atom = atoms.BadNumber (fault_of why (base + at)); whole = record { order = order; within = within; own = tt; tree = number (base + at) n; spells = s; fold = bad_number_at asked (base + at) n why e }; roleless = record { no_twin = refl; single = refl; no_role = refl; sort = omega arith } }
 
     passed_run : JsonRun (between w at end) → IsPassed at end
     passed_run (inl (l, e)) = passed_literal l e
@@ -346,10 +346,10 @@ module _ (asked : Asked) (base : ℕ) (w : List ℕ) where
 
   -- a scalar of which the place behind it and the white space alone is told
   pub item_passed : (at first last end : ℕ) → at ≤ first → AreSpaces (between w at first) → IsScalarAt w first last → last ≤ end → end ≤ length w → AreSpaces (between w last end)
-      → (a : GeoAtom) × IsItem asked base w at (record { end = end; atom = a }) × (twin_of a ≡ None)
+      → (a : GeoAtom) × IsItem asked base w at (record { end = end; atom = a }) × IsRoleless a
   item_passed at first last end h spaces (order, within, s) k fits more =
       let p = scalar_passed first last order within s in
-      (p.atom, item_read at first end (record { end = last; atom = p.atom }) h spaces p.whole k fits more, p.no_twin)
+      (p.atom, item_read at first end (record { end = last; atom = p.atom }) h spaces p.whole k fits more, p.roleless)
 
   -- ---- arrays
 

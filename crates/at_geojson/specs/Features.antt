@@ -35,7 +35,7 @@ use Rattle.at_geojson.specs.declared.at_once.features.PropertiesRead.{Properties
 use Rattle.at_geojson.specs.Atoms.{twin_of, as_kind, as_text, IfOwnShape, IfOwnPart}
 use Rattle.at_geojson.specs.Objects.{feature_shape, texts_in, texts_named, JoinsFeature}
 use Rattle.at_geojson.specs.Fields.{kind_in_fields, value_in}
-use Rattle.at_geojson.specs.Members.{IsNewName, IsFieldRead, AreFieldsRead}
+use Rattle.at_geojson.specs.Members.{IsNewName, IsRoleless, IsFieldRead, AreFieldsRead}
 use Rattle.at_geojson.specs.PlainGeometries.{IsSeenOf, IsSeen}
 use Rattle.at_geojson.specs.Values.{IsWhole, IsItem}
 
@@ -47,7 +47,20 @@ pub record IsShapeRead (asked : Asked) (base : ℕ) (w : List ℕ) (at : ℕ) (p
   pub shape : feature_shape (Some atom) ≡ p.shape
   pub own : IfOwnShape asked p.shape
 
--- white space, a value in which no object has equal names, and white space
+-- a value that has no role and is no coordinates but a number, and in which no object has equal names
+abbrev pub PassesWhole : Asked → ℕ → List ℕ → ℕ → ℕ → Type 0
+PassesWhole asked base w at end = (a : GeoAtom) × IsWhole asked base w at (record { end = end; atom = a }) × IsRoleless a
+
+-- the same with white space round it
+abbrev pub PassesPart : Asked → ℕ → List ℕ → ℕ → ℕ → Type 0
+PassesPart asked base w at end = (a : GeoAtom) × IsItem asked base w at (record { end = end; atom = a }) × IsRoleless a
+
+-- a value in which no object has equal names
+abbrev pub PassesArray : Asked → ℕ → List ℕ → ℕ → ℕ → Type 0
+PassesArray asked base w at end = (a : GeoAtom) × IsWhole asked base w at (record { end = end; atom = a })
+    × (twin_of a ≡ None)
+
+-- the same with white space round it
 abbrev pub PassesOther : Asked → ℕ → List ℕ → ℕ → ℕ → Type 0
 PassesOther asked base w at end = (a : GeoAtom) × IsItem asked base w at (record { end = end; atom = a })
     × (twin_of a ≡ None)
@@ -156,7 +169,7 @@ ReadsVoid asked base w n before after old new end = (f : Fields) → NameNoKind 
 pub record IsTexted (asked : Asked) (base : ℕ) (w : List ℕ) (at : ℕ) (p : VoidRead) : Type 0 where
   pub atom : GeoAtom
   pub whole : IsWhole asked base w at (record { end = p.end; atom = atom })
-  pub no_twin : twin_of atom ≡ None
+  pub roleless : IsRoleless atom
   pub texts : List TextPair
   pub has : texts_in atom ≡ Ok texts
   pub met : p.met ≡ met_by asked.query.tests texts

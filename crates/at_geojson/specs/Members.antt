@@ -12,10 +12,11 @@ use Rattle.at_scan.specs.Members.{name_in, is_among_others, ArePlainOthers, Adds
 use Rattle.at_scan.specs.Fields.{field_of, is_kind, is_coordinates, is_geometry, is_properties, is_features}
 use Rattle.at_scan.specs.Fields.{is_geometries, is_no_field}
 use Rattle.at_geojson.specs.declared.atoms.atom.GeoAtom.{GeoAtom}
+use Rattle.at_geojson.specs.declared.atoms.atom.Role.TheVariants as roles
 use Rattle.at_geojson.specs.declared.objects.fields.Fields.{Fields}
 use Rattle.at_geojson.specs.declared.coordinates.pairs.Whole.{Whole}
-use Rattle.at_geojson.specs.Atoms.{twin_of, IsOwn}
-use Rattle.at_geojson.specs.Gathering.{is_among, member_twins}
+use Rattle.at_geojson.specs.Atoms.{twin_of, as_run, role_of, IsOwn}
+use Rattle.at_geojson.specs.Gathering.{is_among, member_twins, rank, sort_of}
 use Rattle.at_geojson.specs.Fields.{put_if, value_in, AreFields, MakesFields}
 use Rattle.at_geojson.specs.Values.{IsItem, AreMembersRead}
 
@@ -35,10 +36,17 @@ pub record EndsFields (asked : Asked) (at end : ℕ) (fields : Fields) (texts : 
 abbrev pub IsScalarAt : List ℕ → ℕ → ℕ → Type 0
 IsScalarAt w at end = (at < end) × (end ≤ length w) × IsScalarText (between w at end)
 
--- a value with white space round it in which no object has equal names, of which the place behind it alone is told
+-- a value that has no role and is no coordinates but a number, and in which no object has equal names
+pub record IsRoleless (a : GeoAtom) : Type 0 where
+  pub no_twin : twin_of a ≡ None
+  pub single : as_run a ≡ None
+  pub no_role : role_of a ≡ roles.Nothing
+  pub sort : rank (sort_of a) ≤ 1
+
+-- such a value with white space round it, of which the place behind it alone is told
 abbrev pub PassesItem : Asked → List ℕ → ℕ → ℕ → Type 0
 PassesItem asked w at end = (base : ℕ) → (a : GeoAtom) × IsItem asked base w at (record { end = end; atom = a })
-    × (twin_of a ≡ None)
+    × IsRoleless a
 
 -- such a value as a member of an object, which is put in its place among the fields
 pub record IsFieldRead (asked : Asked) (base : ℕ) (w : List ℕ) (at : ℕ) (field : Field) (old new : Fields) (end : ℕ)

@@ -1,6 +1,7 @@
 -- Positions one behind another in an array that are read at once. Only contracts of private functions cite this.
-use Rattle.std.specs.Prelude.{◌≡◌, ℕ, ◌+◌, ◌<◌, List, [], ◌∷◌, length, slice_index, Some, None}
+use Rattle.std.specs.Prelude.{◌≡◌, ℕ, ◌+◌, ◌<◌, List, ◌∷◌, length, slice_index, Some, None}
 use Rattle.at_nest.specs.Tree.{Tree}
+use Rattle.at_geom.specs.declared.positions.Pos.{Pos}
 use Rattle.at_query.specs.Keeping.{Asked}
 use Rattle.at_geojson.specs.declared.atoms.atom.GeoAtom.TheVariants as atoms
 use Rattle.at_geojson.specs.declared.atoms.atom.TrackAtom.{TrackAtom}
@@ -32,10 +33,10 @@ pub record ArePositionsRead (asked : Asked) (base : ℕ) (w : List ℕ) (end at 
   pub there : AreItemsAt base w 0 end first others
   pub tracked : AreTracked asked at v (first ∷ others)
 
--- the track of so many positions, up to four, none of whose values are kept
-pub record IsPassedTrack (first : PairRead) (count : ℕ) (last : PairRead) (p : Whole) : Type 0 where
+-- the track of so many positions, up to four, and of these values
+pub record IsTrackRead (first : PairRead) (count : ℕ) (last : PairRead) (path : List Pos) (p : Whole) : Type 0 where
   pub track : TrackAtom
   pub atom : p.atom ≡ atoms.Track track
   pub behind : p.end ≡ last.end
   pub at_is : track.at ≡ first.pair.at
-  pub view : track_view track.track.value ≡ record { first = Some first.pair.pos; last = Some last.pair.pos; count = count; fault = None; path = [] }
+  pub view : track_view track.track.value ≡ record { first = Some first.pair.pos; last = Some last.pair.pos; count = count; fault = None; path = path }

@@ -363,37 +363,49 @@ impl TableNames {
     }
 }
 
-/// A name with its hash and its field.
+/// A name with its hash.
 #[inline(always)]
-fn other_name(text: &[u8], place: NamePlace) -> OtherName
-    requires { IsPlainName text.now place }
+fn other_name(text: &[u8], name: FieldName) -> OtherName
+    requires plain { IsPlainName text.now name.place }
+    requires field { name.field ≡ field_of (name_in text.now name.place) }
     ensures name { IsOtherName text.now result }
-    ensures place { result.place ≡ place }
+    ensures place { result.place ≡ name.place }
 {
-    let name = name_bytes(text, place);
     OtherName {
-        place,
-        hash: hash_of_tail(name),
-        field: field_named(name),
+        place: name.place,
+        hash: hash_of_tail(name_bytes(text, name.place)),
+        field: name.field,
     }
+}
+
+/// Puts a name to others, unless it is among them. The names that were expected are forgotten.
+#[inline(always)]
+fn add_name(text: &[u8], others: &mut OtherNames, name: FieldName) -> Result<(), Halt>
+    requires names { ArePlainOthers text.now others.old }
+    requires plain { IsPlainName text.now name.place }
+    requires field { name.field ≡ field_of (name_in text.now name.place) }
+    ensures new { IfOk result (λ _. is_among_others text.now others.old (name_in text.now name.place) ≡ false) }
+    ensures adds { IfOk result (λ _. AddsName text.now name.place others.old others.new) }
+{
+    others.cut();
+    let other = other_name(text, name);
+    if others.knows(text, other) {
+        return Err(Halt::At(name.place.end));
+    }
+    others.push(other)?;
+    Ok(())
 }
 
 /// Puts a name to those of members for which no kind asks, unless it is among them. The names that were expected are
 /// forgotten.
-#[inline(always)]
 pub fn add_other(text: &[u8], others: &mut OtherNames, name: NamePlace) -> Result<(), Halt>
     requires names { ArePlainOthers text.now others.old }
     requires name { IsPlainName text.now name }
     ensures new { IfOk result (λ _. is_among_others text.now others.old (name_in text.now name) ≡ false) }
     ensures adds { IfOk result (λ _. AddsName text.now name others.old others.new) }
 {
-    others.cut();
-    let other = other_name(text, name);
-    if others.knows(text, other) {
-        return Err(Halt::At(name.end));
-    }
-    others.push(other)?;
-    Ok(())
+    let field = field_named(name_bytes(text, name));
+    add_name(text, others, FieldName { place: name, field })
 }
 
 /// The name of a member that isn't looked at as a whole word.
@@ -526,7 +538,7 @@ pub fn next_name(text: &[u8], others: &mut OtherNames, at: usize) -> Result<Fiel
     }
     let name = name_behind(text, at, first)?;
     if is_other(name.field) {
-        add_other(text, others, name.place)?;
+        add_name(text, others, name)?;
     }
     Ok(name)
 }

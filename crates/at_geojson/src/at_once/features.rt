@@ -18,7 +18,7 @@ use crate::asked::GeoAlgebra;
 use crate::at_once::plain_geometries::{
     Seen, SeenRead, ShapeRead, read_geometry, read_kind, seen_shape,
 };
-use crate::at_once::plain_objects::{VoidRead, pass_early, pass_object, pass_other};
+use crate::at_once::plain_objects::{VoidRead, is_read_again, pass_early, pass_object, pass_other};
 use crate::at_once::values::{DEEPEST, read_item};
 use crate::atoms::atom::{GeoAtom, ObjectAtom, Role};
 use crate::atoms::geometries::Geometry;
@@ -130,14 +130,6 @@ fn other_properties(text: &Text<'_>, at: usize) -> Result<PropertiesRead, Halt>
     }
 }
 
-/// Whether a value that was given up at a place is read in another way: one of another kind, and where texts are asked
-/// for, each that doesn't seem to be cut.
-pub fn is_read_again(text: &Text<'_>, first: usize, place: usize) -> bool {
-    place == OTHER_KIND
-        || (needs_texts(text.algebra.query().tests.as_slice())
-            && !seems_cut(text.bytes, first, place))
-}
-
 /// White space, a value as properties in which nothing is wrong, and white space.
 fn read_properties(
     text: &Text<'_>,
@@ -153,7 +145,7 @@ fn read_properties(
     if !stands(text.bytes, first, b'{') {
         return other_properties(text, at);
     }
-    match pass_object(text, first, others) {
+    match pass_object(text, first, DEEPEST + 1, others) {
         Ok(VoidRead { end, met }) => Ok(PropertiesRead {
             end: skip_spaces(text.bytes, end),
             hold: text.algebra.all_met(met),

@@ -1,16 +1,16 @@
 //! Positions one behind another in an array, read at once: they are one track. So a list that goes on beyond what is
 //! seen of it is read in few steps.
 
-ghost use Rattle.std.specs.Prelude.{◌≡◌, ◌+◌, ◌<◌, false, IfOk, IfSome};
+ghost use Rattle.std.specs.Prelude.{◌≡◌, ◌+◌, ◌<◌, true, false, IfOk, IfSome};
 ghost use Rattle.at_query.specs.Keeping.{needs_shapes as needs_of};
 ghost use Rattle.at_geojson.specs.Values.{IsSpacedPair};
 ghost use Rattle.at_geojson.specs.FeatureRuns.{AreItemsWhole};
-ghost use Rattle.at_geojson.specs.PositionRuns.{IsNextPair, PassesNext, IsPassedTrack};
+ghost use Rattle.at_geojson.specs.PositionRuns.{IsNextPair, PassesNext, IsTrackRead};
 
 use crate::atoms::atom::{GeoAtom, Track, TrackAtom};
-use crate::coordinates::pairs::{PairRead, Whole, one_more, pass_spaced, read_spaced};
-use crate::joined::tracks::{joined_track, new_track};
+use crate::coordinates::pairs::{PairRead, ROOM, Whole, one_more, pass_spaced, read_spaced};
 use crate::text::Text;
+use at_geom::Pos;
 use at_scan::{OTHER_KIND, stands};
 use at_text::Halt;
 use std::alloc::Global;
@@ -39,34 +39,22 @@ fn pass_next(text: &Text<'_>, at: usize) -> Option<usize>
     }
 }
 
-/// Positions of which the first was read, where shapes are kept.
-fn keep_positions(text: &Text<'_>, first: PairRead) -> Result<Whole, Halt>
-    requires first { IsSpacedPair text.now.algebra.now text.now.base text.now.bytes.now 0 first }
-    ensures { IfOk result (AreItemsWhole text.now.algebra.now text.now.base text.now.bytes.now 0) }
-{
-    let needs = text.algebra.needs_shapes();
-    let mut track = new_track(text.alloc, needs, GeoAtom::Position(first.pair))?;
-    let mut end = first.end;
-    'positions: while let Some(next) = next_pair(text, end) {
-        track = joined_track(needs, track, GeoAtom::Position(next.pair))?;
-        end = next.end;
-    }
-    Ok(Whole {
-        end,
-        atom: GeoAtom::Track(track),
-    })
-}
-
-/// A track of so many positions, up to four, none of whose values are kept.
-fn passed_track(alloc: Global, first: PairRead, count: u32, last: PairRead) -> Result<Whole, Halt>
-    ensures { IfOk result (IsPassedTrack first count last) }
+/// A track of so many positions, up to four, and of these values, where values are kept.
+fn track_read(
+    alloc: Global,
+    first: PairRead,
+    count: u32,
+    last: PairRead,
+    path: Vec<Pos>,
+) -> Result<Whole, Halt>
+    ensures { IfOk result (IsTrackRead first count last path.items) }
 {
     let track = Track {
         first: Some(first.pair.pos),
         last: Some(last.pair.pos),
         count,
         fault: None,
-        path: Vec::new(alloc),
+        path,
     };
     Ok(Whole {
         end: last.end,
@@ -75,6 +63,24 @@ fn passed_track(alloc: Global, first: PairRead, count: u32, last: PairRead) -> R
             track: Box::new(alloc, track)?,
         }),
     })
+}
+
+/// Positions of which the first was read, where shapes are kept.
+fn keep_positions(text: &Text<'_>, first: PairRead) -> Result<Whole, Halt>
+    requires first { IsSpacedPair text.now.algebra.now text.now.base text.now.bytes.now 0 first }
+    requires needed { needs_of text.now.algebra.now.query ≡ true }
+    ensures { IfOk result (AreItemsWhole text.now.algebra.now text.now.base text.now.bytes.now 0) }
+{
+    let mut path = Vec::with_capacity(text.alloc, ROOM)?;
+    path.push(first.pair.pos)?;
+    let mut last = first;
+    let mut count = 1;
+    'positions: while let Some(next) = next_pair(text, last.end) {
+        path.push(next.pair.pos)?;
+        count = one_more(count);
+        last = next;
+    }
+    track_read(text.alloc, first, count, last, path)
 }
 
 /// Positions of which the first was read, where no shapes are kept: but the last, which is read, the others are passed
@@ -98,7 +104,13 @@ fn pass_positions(text: &Text<'_>, first: PairRead) -> Result<Whole, Halt>
         ahead = next;
     }
     match next_pair(text, end) {
-        Some(last) => passed_track(text.alloc, first, one_more(count), last),
+        Some(last) => track_read(
+            text.alloc,
+            first,
+            one_more(count),
+            last,
+            Vec::new(text.alloc),
+        ),
         None => Err(Halt::At(OTHER_KIND)),
     }
 }

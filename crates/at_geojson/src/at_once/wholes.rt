@@ -7,8 +7,9 @@ ghost use Rattle.at_geojson.specs.Values.{IsWhole};
 ghost use Rattle.at_geojson.specs.FeatureRuns.{AreItemsWhole};
 
 use crate::at_once::feature_runs::{FeaturesRead, read_features};
-use crate::at_once::features::{feature_value, is_read_again};
+use crate::at_once::features::feature_value;
 use crate::at_once::object_runs::{is_empty_object, read_objects};
+use crate::at_once::plain_objects::is_read_again;
 use crate::at_once::position_runs::read_positions;
 use crate::at_once::values::{DEEPEST, read_list, read_object};
 use crate::atoms::atom::GeoAtom;

@@ -135,7 +135,7 @@ fn one_position(alloc: Global, needs: bool, atom: &GeoAtom) -> Result<TrackAtom,
 }
 
 /// A track of one position, or the track itself.
-pub fn new_track(alloc: Global, needs: bool, atom: GeoAtom) -> Result<TrackAtom, Memory>
+fn new_track(alloc: Global, needs: bool, atom: GeoAtom) -> Result<TrackAtom, Memory>
     ensures { IfOk result (Begins needs atom) }
 {
     match atom {
@@ -145,7 +145,7 @@ pub fn new_track(alloc: Global, needs: bool, atom: GeoAtom) -> Result<TrackAtom,
 }
 
 /// A track, and the positions of an atom behind it.
-pub fn joined_track(needs: bool, before: TrackAtom, atom: GeoAtom) -> Result<TrackAtom, Memory>
+fn joined_track(needs: bool, before: TrackAtom, atom: GeoAtom) -> Result<TrackAtom, Memory>
     ensures { IfOk result (Joins needs before atom) }
 {
     let at = before.at.min(at_of(&atom));

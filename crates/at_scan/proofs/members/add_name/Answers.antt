@@ -2,7 +2,7 @@ use Rattle.std.proofs.Common.{◌∙◌, sym, subst}
 use Rattle.at_scan.specs.declared.places.NamePlace.{NamePlace}
 use Rattle.at_scan.specs.Members.{AddsName}
 use Rattle.at_scan.proofs.OtherNamesMore.{cut_known, cut_plain, other_adds}
-use Rattle.at_scan.proofs.members.add_other.Goals as goal
+use Rattle.at_scan.proofs.members.add_name.Goals as goal
 
 pub knows-requires-clause-names : goal.knows-requires-clause-names
 knows-requires-clause-names c = cut_plain c.args.text.now c.args.others.now c.cut.new.self c.requires.names c.cut.ensures
