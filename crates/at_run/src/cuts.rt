@@ -7,7 +7,7 @@ ghost use Rattle.at_crew.specs.Nodes.{IsBlockCount};
 ghost use Rattle.at_run.specs.Places.{IsLeastCount, AreCuts, AreEven, first_place, last_place};
 ghost use Rattle.at_run.specs.Places.{even_place};
 
-use crate::feature_cuts::cut_between;
+use crate::feature_cuts::Searches;
 use at_text::{MOST_BLOCKS, Memory};
 use std::alloc::Global;
 use std::marker::Model;
@@ -101,7 +101,8 @@ impl Cuts {
     }
 
     /// These cuts of a file of GeoJSON, each but the first and the last moved to the next place, before the cut behind
-    /// it, at which a feature seems to begin; one stays where none seems to. Blocks of whole features are read fastest.
+    /// it, at which a feature seems to begin; one stays where none seems to, as inside of a long coastline, where not
+    /// each cut is looked at. Blocks of whole features are read fastest.
     pub fn near_features(self, bytes: &[u8]) -> Cuts
         requires { last_place self ≤ length bytes.now }
         ensures first { first_place result ≡ first_place self }
@@ -110,10 +111,11 @@ impl Cuts {
     {
         let mut places = self.places;
         let last = places.len() - 1;
+        let mut searches = Searches::new();
         for index in 1..last {
             let from = places[index] as usize;
             let to = places[index + 1] as usize;
-            places[index] = cut_between(bytes, from, to) as u32;
+            places[index] = searches.cut_between(bytes, from, to) as u32;
         }
         Cuts { places }
     }

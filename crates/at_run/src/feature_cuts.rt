@@ -14,6 +14,12 @@ const TYPE: &[u8] = b"\"type\"";
 
 const FEATURE: &[u8] = b"\"Feature\"";
 
+/// A search over fewer bytes in vain says nothing of the next one.
+const FEW: usize = 4096;
+
+/// After so many searches in vain one behind another most cuts are left where they are.
+const MOST_MISSES: u32 = 4;
+
 /// The place of the white space that ends at the place, or the place itself where none does.
 fn before_spaces(bytes: &[u8], at: usize) -> usize
     requires { at ≤ length bytes.now }
@@ -68,7 +74,7 @@ fn comma_before(bytes: &[u8], from: usize, at: usize) -> Option<usize>
 
 /// The first place from one place on and before another at which a comma stands, and a feature seems to begin behind it;
 /// the first of the two, where none is found.
-pub fn cut_between(bytes: &[u8], from: usize, to: usize) -> usize
+fn cut_between(bytes: &[u8], from: usize, to: usize) -> usize
     requires order { from ≤ to }
     requires within { to ≤ length bytes.now }
     ensures order { from ≤ result }
@@ -83,4 +89,57 @@ pub fn cut_between(bytes: &[u8], from: usize, to: usize) -> usize
         place = at + 1;
     }
     from
+}
+
+/// Searches for features behind cuts, one behind another.
+#[derive(Clone, Copy)]
+pub struct Searches {
+    /// So many in vain one behind another.
+    misses: u32,
+    /// So many cuts are left where they are before the next search.
+    left: u32,
+}
+
+impl Searches {
+    /// None yet.
+    pub fn new() -> Searches {
+        Searches { misses: 0, left: 0 }
+    }
+
+    /// Whether a feature is searched for behind the next cut.
+    fn are_worth_it(&mut self) -> bool {
+        if self.left == 0 {
+            return true;
+        }
+        self.left -= 1;
+        false
+    }
+
+    /// One more search over so many bytes, which was in vain or not. After the second in vain one cut is left, after the
+    /// third three, and then seven.
+    fn note(&mut self, in_vain: bool, bytes: usize) {
+        if !in_vain {
+            self.misses = 0;
+        } else if bytes >= FEW {
+            self.misses = self.misses.saturating_add(1);
+        }
+        let steps = 1u32 << self.misses.min(MOST_MISSES);
+        self.left = (steps / 2).saturating_sub(1);
+    }
+
+    /// The place to which the next cut is moved, from one place on and before another: as of `cut_between`, or where it is
+    /// if no feature is searched for.
+    pub fn cut_between(&mut self, bytes: &[u8], from: usize, to: usize) -> usize
+        requires order { from ≤ to }
+        requires within { to ≤ length bytes.now }
+        ensures order { from ≤ result }
+        ensures within { result ≤ to }
+    {
+        if !self.are_worth_it() {
+            return from;
+        }
+        let place = cut_between(bytes, from, to);
+        self.note(place == from, to - from);
+        place
+    }
 }
