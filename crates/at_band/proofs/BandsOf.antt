@@ -14,7 +14,7 @@ use Rattle.at_geom.specs.Segments.{HaveCommonPoint}
 use Rattle.at_geom.specs.Shapes.{MeetsSome, segments, positions}
 use Rattle.at_geom.proofs.CommonPoint.{common_point_out}
 use Rattle.at_geom.proofs.Found.{found_segment, extent_covers, sides}
-use Rattle.at_geom.proofs.Elements.{not_first}
+use Rattle.at_geom.proofs.Elements.{not_first, some_one}
 use Rattle.at_band.specs.declared.zones.Band.{Band}
 use Rattle.at_band.specs.declared.zones.Zone.{Zone}
 use Rattle.at_band.specs.declared.bands.Frame.{Frame}
@@ -88,11 +88,6 @@ zone_met_at s a b f h zone v k = (
   some_map (λ (band : Band). IsAt (shared_height a b f) band.heights) (IsMetIn a b s) (met_at s a b f h) zone.bands.items
       (some_by (IsAt (shared_height a b f)) heights_of_band zone.bands.items (v.covering (shared_height a b f) k.0 k.1)),
 )
-
-pub some_one : {X : Type 0} (P : X → Type 0) (xs : List X) → SomeOf P xs → (x : X) × P x
-some_one P [] h = absurd h
-some_one P (x ∷ xs) (inl h) = (x, h)
-some_one P (x ∷ xs) (inr h) = some_one P xs h
 
 -- a segment whose ends are at heights of the zone meets what it meets in one of its bands
 pub met_in_zone : (s : Shape) (zone : Zone) (a b : Pos) → IsZoneOf s zone → IsAt a.y zone.heights → IsAt b.y zone.heights → MeetsSome a b (segments s) → SomeOf (IsMetIn a b s) zone.bands.items

@@ -14,14 +14,14 @@ use Rattle.at_geom.specs.declared.rectangles.Extent.{Extent}
 use Rattle.at_geom.specs.Regions.{IsOnRing, is_odd_for, IsNotInHole, IsInRings}
 use Rattle.at_geom.proofs.Found.{TouchesBox, touches}
 use Rattle.at_geom.specs.Shapes.{extent_of, MeetsSome, SomeMeet, IsInSome, SomeIsIn, Meet, segments, segments_of_points, segments_of_polygons, positions, joined, positions_of_polygons}
-use Rattle.at_geom.proofs.Elements.{some_left, some_right, some_of_parts, first_of_three, second_of_three, third_of_three, only_third}
+use Rattle.at_geom.proofs.Elements.{some_one, some_left, some_right, some_of_parts, first_of_three, second_of_three, third_of_three, only_third}
 use Rattle.at_band.specs.declared.zones.Band.{Band}
 use Rattle.at_band.specs.Thinned.{spans}
 use Rattle.at_band.specs.Banded.{IsAt, IsBandOf, IsOfPoints}
 use Rattle.at_band.specs.Touched.{IsOnRings, IsOnPolygon, IsOnShape, SomeIsOn}
 use Rattle.at_band.proofs.Filtered.{same_some}
 use Rattle.at_band.proofs.ThinnedRegions.{on_spans}
-use Rattle.at_band.proofs.BandsOf.{some_map, some_by, some_one}
+use Rattle.at_band.proofs.BandsOf.{some_map, some_by}
 
 abbrev Touching : Pos → Pos × Pos → Type 0
 Touching p f = HaveCommonPoint p p f.0 f.1

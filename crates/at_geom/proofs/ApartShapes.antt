@@ -14,17 +14,8 @@ use Rattle.at_geom.specs.Segments.{HaveCommonPoint}
 use Rattle.at_geom.specs.Shapes.{joined, positions, positions_of_polygons, segments, MeetsSome, SomeMeet, IsInSome, SomeIsIn, Meet, extent_of, is_within}
 use Rattle.at_geom.proofs.CommonPoint.{common_point_out}
 use Rattle.at_geom.proofs.ClosedRings.{in_some_closed}
+use Rattle.at_geom.proofs.Elements.{some_one}
 use Rattle.at_geom.proofs.Found.{AreWithin, IsInside, sides, found_position, found_segment, first_within, second_within, extent_covers, TouchesBox}
-
-some_exists : (Q : Pos → Type 0) (ps : List Pos) → SomeOf Q ps → (p : Pos) × Q p
-some_exists Q [] h = absurd h
-some_exists Q (p ∷ ps) (inl h) = (p, h)
-some_exists Q (p ∷ ps) (inr h) = some_exists Q ps h
-
-some_segment : (P : Pos × Pos → Type 0) (es : List (Pos × Pos)) → SomeOf P es → (e : Pos × Pos) × P e
-some_segment P [] h = absurd h
-some_segment P (e ∷ es) (inl h) = (e, h)
-some_segment P (e ∷ es) (inr h) = some_segment P es h
 
 -- ---- no position
 
@@ -55,7 +46,7 @@ no_position s Q w h = let (p, found) = found_position void Q (positions s) w h i
 
 no_region : (s : Shape) (ps : List Pos) → AreWithin void (positions s) → SomeIsIn ps s.polygons → ⊥
 no_region s ps w h =
-    let (p, k) = some_exists (λ (p : Pos). IsInSome p s.polygons) ps h in
+    let (p, k) = some_one (λ (p : Pos). IsInSome p s.polygons) ps h in
     let v = second_within void (s.points ++ joined s.lines) (positions_of_polygons s.polygons) w in
     nothing_within p (in_some_closed void p s.polygons v (void_polygons s.polygons v) k)
 
@@ -66,7 +57,7 @@ empty_first s u e (inr (inr h)) = no_region s (positions u) (none_within (positi
 
 pub empty_second : (s u : Shape) → extent_of (positions u) ≡ None → Meet s u → ⊥
 empty_second s u e (inl h) =
-    let (f, k) = some_segment (λ (f : Pos × Pos). MeetsSome f.0 f.1 (segments u)) (segments s) h in
+    let (f, k) = some_one (λ (f : Pos × Pos). MeetsSome f.0 f.1 (segments u)) (segments s) h in
     no_segment u (λ (g : Pos × Pos). HaveCommonPoint f.0 f.1 g.0 g.1) (none_within (positions u) e) k
 empty_second s u e (inr (inl h)) = no_region u (positions s) (none_within (positions u) e) h
 empty_second s u e (inr (inr h)) = no_position u (λ (p : Pos). IsInSome p s.polygons) (none_within (positions u) e) h

@@ -1,7 +1,7 @@
 -- No position outside the extent of a closed ring is in the ring: beside it no edge is crossed, and to the left of it
 -- the ray crosses each edge that passes the position's height, of which a closed ring has an even number.
 -- For `are_closed`, `reach` and `shapes_meet`.
-use Rattle.std.proofs.Common.{◌≡◌, ℕ, suc, ℤ, pos, negsuc, ◌+◌, ◌-ℤ◌, ◌*ℤ◌, ◌+ℤ◌, ◌≤ℤ◌, ◌<ℤ◌, inl, inr, Bool, true, false, ◌&&◌, int_eq, List, [], ◌∷◌, length, get_or, ◌-◌, arith, refl, sym, ap, ◌∙◌}
+use Rattle.std.proofs.Common.{◌≡◌, ℕ, suc, ℤ, pos, negsuc, ◌+◌, ◌-ℤ◌, ◌+ℤ◌, ◌≤ℤ◌, ◌<ℤ◌, inl, inr, Bool, true, false, ◌&&◌, int_eq, List, [], ◌∷◌, length, get_or, ◌-◌, arith, refl, sym, ap, ◌∙◌}
 use Rattle.std.specs.Prelude.{int_le, IsTrue}
 use Rattle.std.specs.List.{AllByRecursion}
 use Rattle.std.proofs.lemmas.Bool.Decides.{Decides-int_eq}
@@ -15,40 +15,18 @@ use Rattle.at_geom.specs.Regions.{is_crossed, is_odd_for, IsInRings}
 use Rattle.at_geom.specs.Shapes.{joined, is_within, positions_of_polygons, IsInSome}
 use Rattle.at_geom.proofs.CommonPoint.{Between, on_out, above_by}
 use Rattle.at_geom.proofs.Crossings.{flip, odd_step, not_level, not_crossed, by_heights}
-use Rattle.at_geom.proofs.EdgePoints.{run_of_edge, run_to_point, crossed_up, crossed_down}
+use Rattle.at_geom.proofs.EdgePoints.{run_of_edge, run_to_point, crossed_up, crossed_back}
 use Rattle.at_geom.proofs.Found.{left_true, right_true, AreWithin, sides, from_sides, found_edges, first_within, second_within}
 use Rattle.at_geom.proofs.RingLaws.{expand}
 use Rattle.at_geom.proofs.Comparisons.{le_true, le_false, lt_true, lt_false}
 
--- ---- products beside and to the left of an edge, by how far apart things are
+-- ---- an edge, both of whose ends are on one side of the position, by how far apart things are
 
--- left of both ends, where the edge rises past the position
-left_rising : (m n t r : ℕ) → (negsuc m *ℤ pos (t + suc r)) <ℤ (pos t *ℤ (pos (suc n) -ℤ pos (suc m)))
-left_rising m n t r = simp expand (omega (arith, ints))
+left_rising : (p a b : Pos) (m n t r : ℕ) → p.x -ℤ a.x ≡ negsuc m → b.x -ℤ a.x ≡ pos (suc n) -ℤ pos (suc m) → p.y -ℤ a.y ≡ pos t → b.y -ℤ a.y ≡ pos (t + suc r) → run_to_point p a b <ℤ run_of_edge p a b
+left_rising p a b m n t r e f g h = rw (e, f, g, h) (simp expand (omega (arith, ints)))
 
-right_rising : (m n t r : ℕ) → (pos t *ℤ (pos m -ℤ pos n)) ≤ℤ (pos (suc m) *ℤ pos (t + suc r))
-right_rising m n t r = simp expand (omega (arith, ints))
-
-left_falling : (m n t r : ℕ) → (negsuc t *ℤ (pos (suc n) -ℤ pos (suc m))) <ℤ (negsuc m *ℤ negsuc (t + r))
-left_falling m n t r = simp expand (omega (arith, ints))
-
-right_falling : (m n t r : ℕ) → (pos (suc m) *ℤ negsuc (t + r)) ≤ℤ (negsuc t *ℤ (pos m -ℤ pos n))
-right_falling m n t r = simp expand (omega (arith, ints))
-
--- ---- an edge, both of whose ends are on one side of the position
-
--- by how far apart things are, as numbers
-run_left_up : (p a b : Pos) (m n t r : ℕ) → p.x -ℤ a.x ≡ negsuc m → b.x -ℤ a.x ≡ pos (suc n) -ℤ pos (suc m) → p.y -ℤ a.y ≡ pos t → b.y -ℤ a.y ≡ pos (t + suc r) → run_to_point p a b <ℤ run_of_edge p a b
-run_left_up p a b m n t r e f g h = rw (e, f, g, h) (left_rising m n t r)
-
-run_right_up : (p a b : Pos) (m n t r : ℕ) → p.x -ℤ a.x ≡ pos (suc m) → b.x -ℤ a.x ≡ pos m -ℤ pos n → p.y -ℤ a.y ≡ pos t → b.y -ℤ a.y ≡ pos (t + suc r) → run_of_edge p a b ≤ℤ run_to_point p a b
-run_right_up p a b m n t r e f g h = rw (e, f, g, h) (right_rising m n t r)
-
-run_left_down : (p a b : Pos) (m n t r : ℕ) → p.x -ℤ a.x ≡ negsuc m → b.x -ℤ a.x ≡ pos (suc n) -ℤ pos (suc m) → p.y -ℤ a.y ≡ negsuc t → b.y -ℤ a.y ≡ negsuc (t + r) → run_of_edge p a b <ℤ run_to_point p a b
-run_left_down p a b m n t r e f g h = rw (e, f, g, h) (left_falling m n t r)
-
-run_right_down : (p a b : Pos) (m n t r : ℕ) → p.x -ℤ a.x ≡ pos (suc m) → b.x -ℤ a.x ≡ pos m -ℤ pos n → p.y -ℤ a.y ≡ negsuc t → b.y -ℤ a.y ≡ negsuc (t + r) → run_to_point p a b ≤ℤ run_of_edge p a b
-run_right_down p a b m n t r e f g h = rw (e, f, g, h) (right_falling m n t r)
+right_rising : (p a b : Pos) (m n t r : ℕ) → p.x -ℤ a.x ≡ pos (suc m) → b.x -ℤ a.x ≡ pos m -ℤ pos n → p.y -ℤ a.y ≡ pos t → b.y -ℤ a.y ≡ pos (t + suc r) → run_of_edge p a b ≤ℤ run_to_point p a b
+right_rising p a b m n t r e f g h = rw (e, f, g, h) (simp expand (omega (arith, ints)))
 
 left_up : (p a b : Pos) → p.x <ℤ a.x → p.x <ℤ b.x → a.y ≤ℤ p.y → p.y <ℤ b.y → is_crossed p (a, b) ≡ true
 left_up p a b h k u v =
@@ -56,15 +34,7 @@ left_up p a b h k u v =
     let (n, en) = above_by (p.x +ℤ pos 1) b.x (omega (arith, ints)) in
     let (t, et) = above_by a.y p.y u in
     let (r, er) = above_by (p.y +ℤ pos 1) b.y (omega (arith, ints)) in
-    crossed_up p a b u v ∙ lt_true _ _ (run_left_up p a b m n t r (omega (arith, ints, em)) (omega (arith, ints, em, en)) (omega (arith, ints, et)) (omega (arith, ints, et, er)))
-
-left_down : (p a b : Pos) → p.x <ℤ a.x → p.x <ℤ b.x → p.y <ℤ a.y → b.y ≤ℤ p.y → is_crossed p (a, b) ≡ true
-left_down p a b h k u v =
-    let (m, em) = above_by (p.x +ℤ pos 1) a.x (omega (arith, ints)) in
-    let (n, en) = above_by (p.x +ℤ pos 1) b.x (omega (arith, ints)) in
-    let (t, et) = above_by (p.y +ℤ pos 1) a.y (omega (arith, ints)) in
-    let (r, er) = above_by b.y p.y v in
-    crossed_down p a b u v ∙ lt_true _ _ (run_left_down p a b m n t r (omega (arith, ints, em)) (omega (arith, ints, em, en)) (omega (arith, ints, et)) (omega (arith, ints, et, er)))
+    crossed_up p a b u v ∙ lt_true _ _ (left_rising p a b m n t r (omega (arith, ints, em)) (omega (arith, ints, em, en)) (omega (arith, ints, et)) (omega (arith, ints, et, er)))
 
 right_up : (p a b : Pos) → a.x <ℤ p.x → b.x <ℤ p.x → a.y ≤ℤ p.y → p.y <ℤ b.y → is_crossed p (a, b) ≡ false
 right_up p a b h k u v =
@@ -72,15 +42,7 @@ right_up p a b h k u v =
     let (n, en) = above_by (b.x +ℤ pos 1) p.x (omega (arith, ints)) in
     let (t, et) = above_by a.y p.y u in
     let (r, er) = above_by (p.y +ℤ pos 1) b.y (omega (arith, ints)) in
-    crossed_up p a b u v ∙ lt_false _ _ (run_right_up p a b m n t r (omega (arith, ints, em)) (omega (arith, ints, em, en)) (omega (arith, ints, et)) (omega (arith, ints, et, er)))
-
-right_down : (p a b : Pos) → a.x <ℤ p.x → b.x <ℤ p.x → p.y <ℤ a.y → b.y ≤ℤ p.y → is_crossed p (a, b) ≡ false
-right_down p a b h k u v =
-    let (m, em) = above_by (a.x +ℤ pos 1) p.x (omega (arith, ints)) in
-    let (n, en) = above_by (b.x +ℤ pos 1) p.x (omega (arith, ints)) in
-    let (t, et) = above_by (p.y +ℤ pos 1) a.y (omega (arith, ints)) in
-    let (r, er) = above_by b.y p.y v in
-    crossed_down p a b u v ∙ lt_false _ _ (run_right_down p a b m n t r (omega (arith, ints, em)) (omega (arith, ints, em, en)) (omega (arith, ints, et)) (omega (arith, ints, et, er)))
+    crossed_up p a b u v ∙ lt_false _ _ (right_rising p a b m n t r (omega (arith, ints, em)) (omega (arith, ints, em, en)) (omega (arith, ints, et)) (omega (arith, ints, et, er)))
 
 flip_same : (u v : Bool) → u ≡ v → flip u v ≡ false
 flip_same true true e = refl
@@ -94,11 +56,11 @@ crossed_left : (p a b : Pos) → p.x <ℤ a.x → p.x <ℤ b.x → is_crossed p 
 crossed_left p a b h k =
     by_heights p a b
     (λ u v. left_up p a b h k u v ∙ sym (flip_of _ _ true false (le_true a.y p.y u) (le_false b.y p.y v)))
-    (λ u v. left_down p a b h k u v ∙ sym (flip_of _ _ false true (le_false a.y p.y u) (le_true b.y p.y v)))
+    (λ u v. (crossed_back p a b ∙ left_up p b a k h v u) ∙ sym (flip_of _ _ false true (le_false a.y p.y u) (le_true b.y p.y v)))
     (λ e. not_crossed p a b e ∙ sym (flip_same _ _ e))
 
 crossed_right : (p a b : Pos) → a.x <ℤ p.x → b.x <ℤ p.x → is_crossed p (a, b) ≡ false
-crossed_right p a b h k = by_heights p a b (λ u v. right_up p a b h k u v) (λ u v. right_down p a b h k u v) (not_crossed p a b)
+crossed_right p a b h k = by_heights p a b (λ u v. right_up p a b h k u v) (λ u v. crossed_back p a b ∙ right_up p b a k h v u) (not_crossed p a b)
 
 -- ---- a ring
 

@@ -47,16 +47,7 @@ swapped_axis : (n j k : ℕ) (a b c d : ℤ) → (pos j *ℤ (b -ℤ a)) -ℤ (p
 swapped_axis n j k a b c d h = let g = simp expand at h in simp expand (omega (arith, ints, g))
 
 Crosses-swapped : (ax ay bx by cx cy dx dy : ℤ) → Crosses ax ay bx by cx cy dx dy → Crosses cx cy dx dy ax ay bx by
-Crosses-swapped ax ay bx by cx cy dx dy h = record {
-  n = h.n;
-  j = h.k;
-  k = h.j;
-  some_parts = h.some_parts;
-  on_first = h.on_second;
-  on_second = h.on_first;
-  same_x = swapped_axis h.n h.j h.k ax bx cx dx h.same_x;
-  same_y = swapped_axis h.n h.j h.k ay by cy dy h.same_y;
-}
+Crosses-swapped ax ay bx by cx cy dx dy h = record { n = h.n; j = h.k; k = h.j; some_parts = h.some_parts; on_first = h.on_second; on_second = h.on_first; same_x = swapped_axis h.n h.j h.k ax bx cx dx h.same_x; same_y = swapped_axis h.n h.j h.k ay by cy dy h.same_y }
 
 -- ---- the turns, by the vectors u = ab, v = cd, w = ac
 
@@ -81,32 +72,18 @@ part_below n j k p q r u v w e f g h =
     let i = rw (e, f, g, neg_mul (pos n) w, neg_mul (pos j) u) at h in omega (arith, ints, i)
 
 -- with u and v not parallel, and the turns on both sides of both
-crossing_above : (ax ay bx by cx cy dx dy : ℤ) (n j k : ℕ) → 1 ≤ n → j ≤ n → k ≤ n
-    → cross (bx -ℤ ax) (by -ℤ ay) (dx -ℤ cx) (dy -ℤ cy) ≡ pos n → cross (cx -ℤ ax) (cy -ℤ ay) (dx -ℤ cx) (dy -ℤ cy) ≡ pos j → cross (bx -ℤ ax) (by -ℤ ay) (cx -ℤ ax) (cy -ℤ ay) ≡ neg_ℤ (pos k)
+crossing : (ax ay bx by cx cy dx dy : ℤ) (n j k : ℕ) → 1 ≤ n → j ≤ n → k ≤ n
+    → ((u v w : ℤ) → (cross (cx -ℤ ax) (cy -ℤ ay) (dx -ℤ cx) (dy -ℤ cy) *ℤ u) +ℤ (cross (bx -ℤ ax) (by -ℤ ay) (cx -ℤ ax) (cy -ℤ ay) *ℤ v) ≡ cross (bx -ℤ ax) (by -ℤ ay) (dx -ℤ cx) (dy -ℤ cy) *ℤ w → (pos j *ℤ u) -ℤ (pos k *ℤ v) ≡ pos n *ℤ w)
     → Crosses ax ay bx by cx cy dx dy
-crossing_above ax ay bx by cx cy dx dy n j k some f s e0 e1 e2 = record {
+crossing ax ay bx by cx cy dx dy n j k some f s parts = record {
   n = n;
   j = j;
   k = k;
   some_parts = some;
   on_first = f;
   on_second = s;
-  same_x = part_above n j k _ _ _ (bx -ℤ ax) (dx -ℤ cx) (cx -ℤ ax) e0 e1 e2 (cramer_x (bx -ℤ ax) (by -ℤ ay) (dx -ℤ cx) (dy -ℤ cy) (cx -ℤ ax) (cy -ℤ ay));
-  same_y = part_above n j k _ _ _ (by -ℤ ay) (dy -ℤ cy) (cy -ℤ ay) e0 e1 e2 (cramer_y (bx -ℤ ax) (by -ℤ ay) (dx -ℤ cx) (dy -ℤ cy) (cx -ℤ ax) (cy -ℤ ay));
-}
-
-crossing_below : (ax ay bx by cx cy dx dy : ℤ) (n j k : ℕ) → 1 ≤ n → j ≤ n → k ≤ n
-    → cross (bx -ℤ ax) (by -ℤ ay) (dx -ℤ cx) (dy -ℤ cy) ≡ neg_ℤ (pos n) → cross (cx -ℤ ax) (cy -ℤ ay) (dx -ℤ cx) (dy -ℤ cy) ≡ neg_ℤ (pos j) → cross (bx -ℤ ax) (by -ℤ ay) (cx -ℤ ax) (cy -ℤ ay) ≡ pos k
-    → Crosses ax ay bx by cx cy dx dy
-crossing_below ax ay bx by cx cy dx dy n j k some f s e0 e1 e2 = record {
-  n = n;
-  j = j;
-  k = k;
-  some_parts = some;
-  on_first = f;
-  on_second = s;
-  same_x = part_below n j k _ _ _ (bx -ℤ ax) (dx -ℤ cx) (cx -ℤ ax) e0 e1 e2 (cramer_x (bx -ℤ ax) (by -ℤ ay) (dx -ℤ cx) (dy -ℤ cy) (cx -ℤ ax) (cy -ℤ ay));
-  same_y = part_below n j k _ _ _ (by -ℤ ay) (dy -ℤ cy) (cy -ℤ ay) e0 e1 e2 (cramer_y (bx -ℤ ax) (by -ℤ ay) (dx -ℤ cx) (dy -ℤ cy) (cx -ℤ ax) (cy -ℤ ay));
+  same_x = parts (bx -ℤ ax) (dx -ℤ cx) (cx -ℤ ax) (cramer_x (bx -ℤ ax) (by -ℤ ay) (dx -ℤ cx) (dy -ℤ cy) (cx -ℤ ax) (cy -ℤ ay));
+  same_y = parts (by -ℤ ay) (dy -ℤ cy) (cy -ℤ ay) (cramer_y (bx -ℤ ax) (by -ℤ ay) (dx -ℤ cx) (dy -ℤ cy) (cx -ℤ ax) (cy -ℤ ay));
 }
 
 -- p and q don't lie strictly on one side of 0
@@ -115,16 +92,10 @@ AreApart p q = ((p ≤ℤ pos 0) ⊎ (q ≤ℤ pos 0)) × ((pos 0 ≤ℤ p) ⊎ 
 
 -- where q is p and a number above 0 more
 rises : (p q z : ℤ) → q ≡ p +ℤ z → pos 0 <ℤ z → AreApart p q → (p ≤ℤ pos 0) × (pos 0 ≤ℤ q)
-rises p q z e l (inl f, inl g) = (omega (arith, ints), omega (arith, ints))
-rises p q z e l (inl f, inr g) = (f, g)
-rises p q z e l (inr f, inl g) = (omega (arith, ints), omega (arith, ints))
-rises p q z e l (inr f, inr g) = (omega (arith, ints), omega (arith, ints))
+rises p q z e l h = (omega (arith, ints), omega (arith, ints))
 
 falls : (p q z : ℤ) → q ≡ p -ℤ z → pos 0 <ℤ z → AreApart p q → (pos 0 ≤ℤ p) × (q ≤ℤ pos 0)
-falls p q z e l (inl f, inl g) = (omega (arith, ints), omega (arith, ints))
-falls p q z e l (inl f, inr g) = (omega (arith, ints), omega (arith, ints))
-falls p q z e l (inr f, inl g) = (g, f)
-falls p q z e l (inr f, inr g) = (omega (arith, ints), omega (arith, ints))
+falls p q z e l h = (omega (arith, ints), omega (arith, ints))
 
 pub nat_of : (z : ℤ) → pos 0 ≤ℤ z → (n : ℕ) × (z ≡ pos n)
 nat_of z h = (nat_abs z, omega (arith, ints))
@@ -147,7 +118,7 @@ meets_above ax ay bx by cx cy dx dy l s t =
     let (n, en) = nat_of z (omega (arith, ints)) in
     let (j, ej) = nat_of _ q.0 in
     let (k, ek) = neg_of _ r.0 in
-    crossing_above ax ay bx by cx cy dx dy n j k (omega (arith, ints)) (omega (arith, ints)) (omega (arith, ints)) en (sym f ∙ ej) ek
+    crossing ax ay bx by cx cy dx dy n j k (omega (arith, ints)) (omega (arith, ints)) (omega (arith, ints)) (λ u v w. part_above n j k _ _ _ u v w en (sym f ∙ ej) ek)
 
 meets_below : (ax ay bx by cx cy dx dy : ℤ) → cross (bx -ℤ ax) (by -ℤ ay) (dx -ℤ cx) (dy -ℤ cy) <ℤ pos 0
     → AreApart (cross (bx -ℤ ax) (by -ℤ ay) (cx -ℤ ax) (cy -ℤ ay)) (cross (bx -ℤ ax) (by -ℤ ay) (dx -ℤ ax) (dy -ℤ ay))
@@ -163,7 +134,7 @@ meets_below ax ay bx by cx cy dx dy l s t =
     let (n, en) = neg_of z (omega (arith, ints)) in
     let (j, ej) = neg_of _ q.0 in
     let (k, ek) = nat_of _ r.0 in
-    crossing_below ax ay bx by cx cy dx dy n j k (omega (arith, ints)) (omega (arith, ints)) (omega (arith, ints)) en (sym f ∙ ej) ek
+    crossing ax ay bx by cx cy dx dy n j k (omega (arith, ints)) (omega (arith, ints)) (omega (arith, ints)) (λ u v w. part_below n j k _ _ _ u v w en (sym f ∙ ej) ek)
 
 -- ---- segments on one line
 
@@ -243,28 +214,10 @@ at_d : (n j : ℕ) (a b c d : ℤ) → pos n *ℤ (d -ℤ a) ≡ pos j *ℤ (b -
 at_d n j a b c d h = let g = simp expand at h in simp expand (omega (arith, ints, g))
 
 meets_at_c : (ax ay bx by cx cy dx dy : ℤ) → Proportion ax bx cx ay by cy → Crosses ax ay bx by cx cy dx dy
-meets_at_c ax ay bx by cx cy dx dy h = record {
-  n = h.n;
-  j = h.j;
-  k = 0;
-  some_parts = h.some_parts;
-  on_first = h.within;
-  on_second = omega arith;
-  same_x = at_c h.n h.j ax bx cx dx h.along;
-  same_y = at_c h.n h.j ay by cy dy h.across;
-}
+meets_at_c ax ay bx by cx cy dx dy h = record { n = h.n; j = h.j; k = 0; some_parts = h.some_parts; on_first = h.within; on_second = omega arith; same_x = at_c h.n h.j ax bx cx dx h.along; same_y = at_c h.n h.j ay by cy dy h.across }
 
 meets_at_d : (ax ay bx by cx cy dx dy : ℤ) → Proportion ax bx dx ay by dy → Crosses ax ay bx by cx cy dx dy
-meets_at_d ax ay bx by cx cy dx dy h = record {
-  n = h.n;
-  j = h.j;
-  k = h.n;
-  some_parts = h.some_parts;
-  on_first = h.within;
-  on_second = omega arith;
-  same_x = at_d h.n h.j ax bx cx dx h.along;
-  same_y = at_d h.n h.j ay by cy dy h.across;
-}
+meets_at_d ax ay bx by cx cy dx dy h = record { n = h.n; j = h.j; k = h.n; some_parts = h.some_parts; on_first = h.within; on_second = omega arith; same_x = at_d h.n h.j ax bx cx dx h.along; same_y = at_d h.n h.j ay by cy dy h.across }
 
 Crosses-turned : (ax ay bx by cx cy dx dy : ℤ) → Crosses ax ay bx by cx cy dx dy → Crosses ay ax by bx cy cx dy dx
 Crosses-turned ax ay bx by cx cy dx dy h = record { n = h.n; j = h.j; k = h.k; some_parts = h.some_parts; on_first = h.on_first; on_second = h.on_second; same_x = h.same_y; same_y = h.same_x }
@@ -331,10 +284,7 @@ on_one_line ax ay bx by cx cy dx dy o q l =
 -- ---- all cases
 
 zero_apart : (p : ℤ) → AreApart p p → p ≡ pos 0
-zero_apart p (inl f, inl g) = omega (arith, ints)
-zero_apart p (inl f, inr g) = omega (arith, ints)
-zero_apart p (inr f, inl g) = omega (arith, ints)
-zero_apart p (inr f, inr g) = omega (arith, ints)
+zero_apart p h = omega (arith, ints)
 
 same_products : (x y : ℤ) → x -ℤ y ≡ pos 0 → x ≡ y
 same_products x y h = omega (arith, ints)
@@ -470,36 +420,17 @@ part_of n j k a b c d f s h = let e : n - j + j ≡ n = omega arith in axis_in (
 offset_of : (n j k : ℕ) (a b c d : ℤ) → j ≤ n → k ≤ n → part_way n j a b ≡ part_way n k c d → (pos j *ℤ (b -ℤ a)) -ℤ (pos k *ℤ (d -ℤ c)) ≡ pos n *ℤ (c -ℤ a)
 offset_of n j k a b c d f s h = let e : n - j + j ≡ n = omega arith in rw e at (axis_out (n - j) j (n - k) k a b c d (omega arith) h)
 
-point_of : (a b c d : Pos) (n j k : ℕ) → 1 ≤ n → j ≤ n → k ≤ n
-    → (pos j *ℤ (b.x -ℤ a.x)) -ℤ (pos k *ℤ (d.x -ℤ c.x)) ≡ pos n *ℤ (c.x -ℤ a.x)
-    → (pos j *ℤ (b.y -ℤ a.y)) -ℤ (pos k *ℤ (d.y -ℤ c.y)) ≡ pos n *ℤ (c.y -ℤ a.y) → HaveCommonPoint a b c d
-point_of a b c d n j k some f s x y = record {
-  n = n;
-  j = j;
-  k = k;
-  some_parts = some;
-  on_first = f;
-  on_second = s;
-  same_x = part_of n j k a.x b.x c.x d.x f s x;
-  same_y = part_of n j k a.y b.y c.y d.y f s y;
-}
-
 pub common_point_in : (a b c d : Pos) → Passes a.x a.y b.x b.y c.x c.y d.x d.y → HaveCommonPoint a b c d
 common_point_in a b c d h =
     let k = crosses_in a.x a.y b.x b.y c.x c.y d.x d.y h.overlap_x h.overlap_y h.apart_cd h.apart_ab in
-    point_of a b c d k.n k.j k.k k.some_parts k.on_first k.on_second k.same_x k.same_y
+    let part = λ (p q r s : ℤ). part_of k.n k.j k.k p q r s k.on_first k.on_second in
+    record { n = k.n; j = k.j; k = k.k; some_parts = k.some_parts; on_first = k.on_first; on_second = k.on_second; same_x = part a.x b.x c.x d.x k.same_x; same_y = part a.y b.y c.y d.y k.same_y }
 
 pub common_point_out : (a b c d : Pos) → HaveCommonPoint a b c d → Passes a.x a.y b.x b.y c.x c.y d.x d.y
-common_point_out a b c d h = crosses_out a.x a.y b.x b.y c.x c.y d.x d.y (record {
-  n = h.n;
-  j = h.j;
-  k = h.k;
-  some_parts = h.some_parts;
-  on_first = h.on_first;
-  on_second = h.on_second;
-  same_x = offset_of h.n h.j h.k a.x b.x c.x d.x h.on_first h.on_second h.same_x;
-  same_y = offset_of h.n h.j h.k a.y b.y c.y d.y h.on_first h.on_second h.same_y;
-})
+common_point_out a b c d h =
+    let offset = λ (p q r s : ℤ). offset_of h.n h.j h.k p q r s h.on_first h.on_second in
+    let crossed : Crosses a.x a.y b.x b.y c.x c.y d.x d.y = record { n = h.n; j = h.j; k = h.k; some_parts = h.some_parts; on_first = h.on_first; on_second = h.on_second; same_x = offset a.x b.x c.x d.x h.same_x; same_y = offset a.y b.y c.y d.y h.same_y } in
+    crosses_out a.x a.y b.x b.y c.x c.y d.x d.y crossed
 
 -- p is on the segment ab exactly where it is in its box and on its line
 pub record IsOnLineIn (p a b : Pos) : Type 0 where

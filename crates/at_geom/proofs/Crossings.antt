@@ -1,6 +1,6 @@
 -- Where a position is against an edge and a ring: the two tests of heights, the side of the edge's line, and parity.
 -- For most public calls of the crate, `are_closed`, `doubled_area`, `in_polygon` among them.
-use Rattle.std.proofs.Common.{◌≡◌, ◌≢◌, ℕ, suc, ℤ, pos, ◌+◌, ◌<◌, ◌≤ℤ◌, ◌<ℤ◌, inl, inr, Bool, true, false, not, ◌&&◌, ◌||◌, cond, List, ◌∷◌, length, get_or, drop, zero-add, arith, refl, sym, ap, subst, ◌∙◌}
+use Rattle.std.proofs.Common.{◌≡◌, ◌≢◌, ℕ, suc, ℤ, pos, ◌+◌, ◌<◌, ◌≤ℤ◌, ◌<ℤ◌, Bool, true, false, not, ◌&&◌, ◌||◌, cond, List, ◌∷◌, length, get_or, drop, zero-add, arith, refl, sym, ap, subst, ◌∙◌}
 use mathlib.Core.Bool.{beq}
 use Rattle.std.specs.Prelude.{int_le, int_lt, ◌%◌, ◌==◌, count_by, All}
 use Rattle.std.proofs.lemmas.Bool.{and_from, and_left, and_right}
@@ -9,8 +9,9 @@ use Rattle.at_geom.specs.declared.positions.Pos.{Pos}
 use Rattle.std.proofs.lemmas.List.{drop_more}
 use Rattle.std.proofs.lemmas.List.Sums.{sum_by-cons}
 use Rattle.at_geom.specs.Segments.{IsInRange, IsOn, edges, turn}
-use Rattle.at_geom.specs.Regions.{rises_past, is_crossed, is_odd_for, IsOnRing}
+use Rattle.at_geom.specs.Regions.{rises_past, is_crossed, is_odd_for}
 use Rattle.at_geom.proofs.CommonPoint.{Between, on_out}
+use Rattle.at_geom.proofs.Elements.{SomeEdgeIsLeft, not_in_edge}
 use Rattle.at_geom.proofs.Comparisons.{le_true, le_false, lt_true, lt_false, le_from}
 
 pick_rising : (u v f g : Bool) → u ≡ true → v ≡ false → ((u && f) || (v && g)) ≡ f
@@ -102,23 +103,12 @@ by_crossing : (c : Bool) (n : ℕ) → ((cond c 1 0 + n) % 2 == 1) ≡ flip c (n
 by_crossing true n = parity_step n
 by_crossing false n = ap (λ k. k % 2 == 1) (zero-add n)
 
-off_edge : (p a b : Pos) (r : List Pos) → ¬ IsOn p a b → IsOnRing p (a ∷ b ∷ r) → IsOnRing p (b ∷ r)
-off_edge p a b r f (inl h) = absurd (f h)
-off_edge p a b r f (inr h) = h
-
 pub odd_step : (p a b : Pos) (r : List Pos) → is_odd_for p (a ∷ b ∷ r) ≡ flip (is_crossed p (a, b)) (is_odd_for p (b ∷ r))
 odd_step p a b r = rw (sum_by-cons (λ e. cond (is_crossed p e) 1 0) (a, b) (edges (b ∷ r))) (by_crossing (is_crossed p (a, b)) (count_by (is_crossed p) (edges (b ∷ r))))
 
 pub flip_more : (o x : Bool) → flip o (not x) ≡ flip (not o) x
 flip_more true true = refl
 flip_more _ _ = refl
-
--- one edge on
-pub in_rest_step : (p a : Pos) (rest : List Pos) (i : ℕ) (d : Pos) → i < length rest → ¬ IsOn p a (get_or rest i d) → IsOnRing p (a ∷ drop i rest) → IsOnRing p (get_or rest i d ∷ drop (i + 1) rest)
-in_rest_step p a rest i d lt f h = off_edge p a (get_or rest i d) (drop (i + 1) rest) f (subst (λ (r : List Pos). IsOnRing p (a ∷ r)) (drop_more rest i d lt) h)
-
-pub from_rest_step : (p a : Pos) (rest : List Pos) (i : ℕ) (d : Pos) → i < length rest → IsOnRing p (get_or rest i d ∷ drop (i + 1) rest) → IsOnRing p (a ∷ drop i rest)
-from_rest_step p a rest i d lt h = subst (λ (r : List Pos). IsOnRing p (a ∷ r)) (sym (drop_more rest i d lt)) (inr h)
 
 pub parity_at : (p a : Pos) (rest : List Pos) (i : ℕ) (d : Pos) → i < length rest → is_odd_for p (a ∷ drop i rest) ≡ flip (is_crossed p (a, get_or rest i d)) (is_odd_for p (get_or rest i d ∷ drop (i + 1) rest))
 parity_at p a rest i d lt = ap (λ (r : List Pos). is_odd_for p (a ∷ r)) (drop_more rest i d lt) ∙ odd_step p a (get_or rest i d) (drop (i + 1) rest)
@@ -130,6 +120,17 @@ rest_in_range ring first rest i d e h lt = (subst (λ (r : List Pos). All IsInRa
 pub parity_kept : (whole o o' c here rest : Bool) → whole ≡ flip o here → here ≡ flip c rest → o' ≡ cond c (not o) o → whole ≡ flip o' rest
 parity_kept whole o o' true here rest e f g = e ∙ (ap (flip o) f ∙ (flip_more o rest ∙ ap (λ k. flip k rest) (sym g)))
 parity_kept whole o o' false here rest e f g = e ∙ (ap (flip o) f ∙ ap (λ k. flip k rest) (sym g))
+
+-- what a loop over a ring's edges knows of the ring: what is left of it, from the end of the last edge on, decides
+pub record IsRingLeft (p : Pos) (ring : List Pos) (a : Pos) (rest : List Pos) (i : ℕ) (is_odd : Bool) : Type 0 where
+  pub on_edge : SomeEdgeIsLeft (λ e. IsOn p e.0 e.1) ring a rest i
+  pub parity : is_odd_for p ring ≡ flip is_odd (is_odd_for p (a ∷ drop i rest))
+
+pub one_edge_on : {p : Pos} {ring : List Pos} {a : Pos} {rest : List Pos} {i : ℕ} (d : Pos) {o o' : Bool} → IsRingLeft p ring a rest i o → IsInRange (get_or rest i d) → i < length rest → ¬ IsOn p a (get_or rest i d) → o' ≡ cond (is_crossed p (a, get_or rest i d)) (not o) o → IsRingLeft p ring (get_or rest i d) rest (i + 1) o'
+one_edge_on {p} {ring} {a} {rest} {i} d {o} {o'} now ranged lt off e = record {
+  on_edge = not_in_edge d now.on_edge ranged lt off;
+  parity = parity_kept _ o o' _ _ _ now.parity (parity_at p a rest i d lt) e;
+}
 
 -- ---- the test as the code has it: the ends lie on two sides of the height, and the position to the left of a rising edge or to the right of a falling one
 

@@ -9,6 +9,7 @@ use Rattle.at_geom.specs.Segments.{turn}
 use Rattle.at_geom.specs.Regions.{is_crossed}
 use Rattle.at_geom.proofs.Comparisons.{le_true, le_false, lt_true, lt_false}
 use Rattle.at_geom.proofs.Crossings.{by_heights, side_up, side_down, not_crossed}
+use Rattle.at_geom.proofs.RingLaws.{expand, products}
 
 -- how far the edge ab has gone to the right at the height of p, and how far p is to the right of a, both times the rise
 -- of ab
@@ -41,8 +42,19 @@ gt_of_difference s x y e =
 pub crossed_up : (p a b : Pos) → a.y ≤ℤ p.y → p.y <ℤ b.y → is_crossed p (a, b) ≡ int_lt (run_to_point p a b) (run_of_edge p a b)
 crossed_up p a b h k = sym (side_up p a b (turn a b p) refl h k) ∙ lt_of_difference (turn a b p) (run_to_point p a b) (run_of_edge p a b) (run_difference p a b)
 
-pub crossed_down : (p a b : Pos) → p.y <ℤ a.y → b.y ≤ℤ p.y → is_crossed p (a, b) ≡ int_lt (run_of_edge p a b) (run_to_point p a b)
+crossed_down : (p a b : Pos) → p.y <ℤ a.y → b.y ≤ℤ p.y → is_crossed p (a, b) ≡ int_lt (run_of_edge p a b) (run_to_point p a b)
 crossed_down p a b h k = sym (side_down p a b (turn a b p) refl h k) ∙ gt_of_difference (turn a b p) (run_to_point p a b) (run_of_edge p a b) (run_difference p a b)
+
+turned : (p a b : Pos) → turn a b p ≡ pos 0 -ℤ turn b a p
+turned p a b = simp expand (omega (arith, products))
+
+-- an edge is crossed as the edge the other way is
+pub crossed_back : (p a b : Pos) → is_crossed p (a, b) ≡ is_crossed p (b, a)
+crossed_back p a b =
+    by_heights p a b
+    (λ h k. sym (side_up p a b (turn a b p) refl h k) ∙ (lt_of_difference (turn a b p) (turn b a p) (pos 0) (turned p a b) ∙ side_down p b a (turn b a p) refl k h))
+    (λ h k. sym (side_down p a b (turn a b p) refl h k) ∙ (gt_of_difference (turn a b p) (turn b a p) (pos 0) (turned p a b) ∙ side_up p b a (turn b a p) refl k h))
+    (λ e. not_crossed p a b e ∙ sym (not_crossed p b a (sym e)))
 
 pick_up : (u v f g : Bool) → u ≡ true → v ≡ false → (if u then (if v then false else f) else (if v then g else false)) ≡ f
 pick_up u v f g d e = rw (d, e) refl

@@ -32,6 +32,10 @@ right_true false b h = absurd (cc)
 pub both_true : (a b : Bool) → a ≡ true → b ≡ true → (a && b) ≡ true
 both_true a b e f = rw (e, f) refl
 
+-- where the first test of two holds, the second decides
+pub second_decides : {a b x y : Bool} → x ≡ a → x ≡ true → y ≡ b → y ≡ (a && b)
+second_decides {a} {b} {x} {y} e t f = rw (← e, t, f) refl
+
 -- the four sides
 pub record IsInside (x : Extent) (p : Pos) : Type 0 where
   pub left : x.low.x ≤ℤ p.x

@@ -1,10 +1,8 @@
-use Rattle.std.proofs.Common.{drop}
-use Rattle.at_geom.specs.Shapes.{segments_of_polygons}
-use Rattle.at_band.specs.Banded.{MeetsSomeWithin}
+use Rattle.std.specs.Prelude.{flat_map}
+use Rattle.at_geom.specs.Segments.{edges}
+use Rattle.at_band.specs.Banded.{MeetsWithin}
+use Rattle.at_geom.proofs.Elements.{SomeItemIsLeft}
 use Rattle.at_band.proofs.found.polygons_are_met.Given as goal
 
 abbrev pub invariant-loop-polygon : goal.invariant-loop-polygon
-invariant-loop-polygon l = record {
-  in_rest : MeetsSomeWithin l.heights.low l.heights.high l.a l.b (segments_of_polygons l.polygons) → MeetsSomeWithin l.heights.low l.heights.high l.a l.b (segments_of_polygons (drop l.polygon-index l.polygons));
-  from_rest : MeetsSomeWithin l.heights.low l.heights.high l.a l.b (segments_of_polygons (drop l.polygon-index l.polygons)) → MeetsSomeWithin l.heights.low l.heights.high l.a l.b (segments_of_polygons l.polygons);
-}
+invariant-loop-polygon l = SomeItemIsLeft (MeetsWithin l.heights.low l.heights.high l.a l.b) (λ polygon. flat_map edges polygon.rings) l.polygons l.polygon-index

@@ -1,9 +1,6 @@
-use Rattle.std.proofs.Common.{drop}
-use Rattle.at_geom.specs.Shapes.{SomeIsIn, joined}
+use Rattle.at_geom.specs.Shapes.{IsInSome}
+use Rattle.at_geom.proofs.Elements.{SomeItemIsLeft}
 use Rattle.at_band.proofs.positions.paths_are_in.Given as goal
 
 abbrev pub invariant-loop-path : goal.invariant-loop-path
-invariant-loop-path l = record {
-  in_rest : SomeIsIn (joined l.paths) l.shape.polygons → SomeIsIn (joined (drop l.path-index l.paths)) l.shape.polygons;
-  from_rest : SomeIsIn (joined (drop l.path-index l.paths)) l.shape.polygons → SomeIsIn (joined l.paths) l.shape.polygons;
-}
+invariant-loop-path l = SomeItemIsLeft (λ p. IsInSome p l.shape.polygons) (λ path. path) l.paths l.path-index

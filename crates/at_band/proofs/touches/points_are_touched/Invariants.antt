@@ -1,9 +1,8 @@
 use Rattle.std.proofs.Common.{drop}
-use Rattle.at_geom.specs.Shapes.{MeetsSome, segments_of_points}
+use Rattle.at_geom.specs.Segments.{HaveCommonPoint}
+use Rattle.at_geom.specs.Shapes.{segments_of_points}
+use Rattle.at_geom.proofs.Elements.{SomeIsLeft}
 use Rattle.at_band.proofs.touches.points_are_touched.Given as goal
 
 abbrev pub invariant-loop-q : goal.invariant-loop-q
-invariant-loop-q l = record {
-  in_rest : MeetsSome l.p l.p (segments_of_points l.points) → MeetsSome l.p l.p (segments_of_points (drop l.q-index l.points));
-  from_rest : MeetsSome l.p l.p (segments_of_points (drop l.q-index l.points)) → MeetsSome l.p l.p (segments_of_points l.points);
-}
+invariant-loop-q l = SomeIsLeft (λ e. HaveCommonPoint l.p l.p e.0 e.1) (segments_of_points l.points) (segments_of_points (drop l.q-index l.points))

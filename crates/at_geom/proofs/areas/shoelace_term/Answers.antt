@@ -9,12 +9,8 @@ overflow_sub-result c = omega (arith, ints)
 
 pub returns : goal.returns
 returns c =
-    let ax : FitsSigned w64 c.args.a.x = search rules in
-    let ay : FitsSigned w64 c.args.a.y = search rules in
-    let bx : FitsSigned w64 c.args.b.x = search rules in
-    let by : FitsSigned w64 c.args.b.y = search rules in
-    let f : FitsSigned w128 c.product.result = search rules in
-    let g : FitsSigned w128 c.product-2.result = search rules in
+    let (ax, ay, bx, by) : FitsSigned w64 c.args.a.x × FitsSigned w64 c.args.a.y × FitsSigned w64 c.args.b.x × FitsSigned w64 c.args.b.y = search rules in
+    let (f, g) : FitsSigned w128 c.product.result × FitsSigned w128 c.product-2.result = search rules in
     let h : FitsSigned w128 (c.product.result -ℤ c.product-2.result) = fits_signed_from_abs w128 _ (omega (arith, ints)) in
     let e : c.product.result ≡ (c.args.a.x *ℤ c.args.b.y) = simp to_z-of_z at c.product.ensures.value in
     let k : c.product-2.result ≡ (c.args.b.x *ℤ c.args.a.y) = simp to_z-of_z at c.product-2.ensures.value in

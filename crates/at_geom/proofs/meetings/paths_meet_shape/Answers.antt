@@ -1,21 +1,10 @@
-use Rattle.std.proofs.Common.{refl, ◌∙◌, arith}
-use Rattle.at_geom.specs.declared.positions.Pos.{Pos}
+use Rattle.std.proofs.Common.{ap, arith}
 use Rattle.at_geom.specs.Segments.{edges}
-use Rattle.at_geom.specs.Shapes.{MeetsSome, segments}
-use Rattle.at_geom.proofs.Elements.{untrue, some_here, some_later, not_here}
+use Rattle.at_geom.proofs.Elements.{found_in_item, not_in_item}
 use Rattle.at_geom.proofs.meetings.paths_meet_shape.Goals as goal
 
 pub returns-then-path_meets_shape : goal.returns-then-path_meets_shape
-returns-then-path_meets_shape c =
-    let at = λ (e : Pos × Pos). MeetsSome e.0 e.1 (segments c.args.shape.now) in
-    let found = c.path_meets_shape.ensures.0 c.if-path_meets_shape.true in
-    (λ _. c.loop-path.invariant.from_rest (some_here at edges c.args.paths.now c.loop-path.path-index c.path-item.result c.as_slice.result.now (omega arith) (c.as_slice.ensures ∙ c.path-item.is) found), λ _. refl)
+returns-then-path_meets_shape c = found_in_item c.loop-path.invariant c.path-item.is (omega arith) (ap edges c.as_slice.ensures) c.path_meets_shape.ensures c.if-path_meets_shape.true
 
 pub loop-path-preserved : goal.loop-path-preserved
-loop-path-preserved c =
-    let at = λ (e : Pos × Pos). MeetsSome e.0 e.1 (segments c.args.shape.now) in
-    let not_found = untrue c.path_meets_shape.result c.if-path_meets_shape.false c.path_meets_shape.ensures.1 in
-    record {
-      in_rest = λ h. not_here at edges c.args.paths.now c.loop-path.path-index c.path-item.result c.as_slice.result.now (omega arith) (c.as_slice.ensures ∙ c.path-item.is) not_found (c.loop-path.invariant.in_rest h);
-      from_rest = λ h. c.loop-path.invariant.from_rest (some_later at edges c.args.paths.now c.loop-path.path-index c.path-item.result (omega arith) h);
-    }
+loop-path-preserved c = not_in_item c.loop-path.invariant c.path-item.is (omega arith) (ap edges c.as_slice.ensures) c.path_meets_shape.ensures c.if-path_meets_shape.false

@@ -1,20 +1,10 @@
-use Rattle.std.proofs.Common.{refl, ◌∙◌, arith}
-use Rattle.at_geom.specs.Segments.{HaveCommonPoint, edges}
-use Rattle.at_geom.specs.declared.positions.Pos.{Pos}
-use Rattle.at_geom.proofs.Elements.{untrue, some_here, some_later, not_here}
+use Rattle.std.proofs.Common.{ap, arith}
+use Rattle.at_geom.specs.Segments.{edges}
+use Rattle.at_geom.proofs.Elements.{found_in_item, not_in_item}
 use Rattle.at_geom.proofs.meetings.segment_meets_paths.Goals as goal
 
 pub returns-then-segment_meets_path : goal.returns-then-segment_meets_path
-returns-then-segment_meets_path c =
-    let at = λ (f : Pos × Pos). HaveCommonPoint c.args.a c.args.b f.0 f.1 in
-    let found = c.segment_meets_path.ensures.0 c.if-segment_meets_path.true in
-    (λ _. c.loop-path.invariant.from_rest (some_here at edges c.args.paths.now c.loop-path.path-index c.path-item.result c.as_slice.result.now (omega arith) (c.as_slice.ensures ∙ c.path-item.is) found), λ _. refl)
+returns-then-segment_meets_path c = found_in_item c.loop-path.invariant c.path-item.is (omega arith) (ap edges c.as_slice.ensures) c.segment_meets_path.ensures c.if-segment_meets_path.true
 
 pub loop-path-preserved : goal.loop-path-preserved
-loop-path-preserved c =
-    let at = λ (f : Pos × Pos). HaveCommonPoint c.args.a c.args.b f.0 f.1 in
-    let not_found = untrue c.segment_meets_path.result c.if-segment_meets_path.false c.segment_meets_path.ensures.1 in
-    record {
-      in_rest = λ h. not_here at edges c.args.paths.now c.loop-path.path-index c.path-item.result c.as_slice.result.now (omega arith) (c.as_slice.ensures ∙ c.path-item.is) not_found (c.loop-path.invariant.in_rest h);
-      from_rest = λ h. c.loop-path.invariant.from_rest (some_later at edges c.args.paths.now c.loop-path.path-index c.path-item.result (omega arith) h);
-    }
+loop-path-preserved c = not_in_item c.loop-path.invariant c.path-item.is (omega arith) (ap edges c.as_slice.ensures) c.segment_meets_path.ensures c.if-segment_meets_path.false

@@ -1,9 +1,8 @@
 use Rattle.std.proofs.Common.{drop}
-use Rattle.at_geom.specs.Shapes.{MeetsSome, segments_of_points}
+use Rattle.at_geom.specs.Segments.{HaveCommonPoint}
+use Rattle.at_geom.specs.Shapes.{segments_of_points}
+use Rattle.at_geom.proofs.Elements.{SomeIsLeft}
 use Rattle.at_geom.proofs.meetings.segment_meets_points.Given as goal
 
 abbrev pub invariant-loop-p : goal.invariant-loop-p
-invariant-loop-p l = record {
-  in_rest : MeetsSome l.a l.b (segments_of_points l.points) → MeetsSome l.a l.b (segments_of_points (drop l.p-index l.points));
-  from_rest : MeetsSome l.a l.b (segments_of_points (drop l.p-index l.points)) → MeetsSome l.a l.b (segments_of_points l.points);
-}
+invariant-loop-p l = SomeIsLeft (λ e. HaveCommonPoint l.a l.b e.0 e.1) (segments_of_points l.points) (segments_of_points (drop l.p-index l.points))

@@ -1,9 +1,7 @@
-use Rattle.std.proofs.Common.{drop}
-use Rattle.at_geom.specs.Shapes.{MeetsSome, segments_of_polygons}
+use Rattle.std.specs.Prelude.{flat_map}
+use Rattle.at_geom.specs.Segments.{HaveCommonPoint, edges}
+use Rattle.at_geom.proofs.Elements.{SomeItemIsLeft}
 use Rattle.at_geom.proofs.meetings.segment_meets_polygons.Given as goal
 
 abbrev pub invariant-loop-polygon : goal.invariant-loop-polygon
-invariant-loop-polygon l = record {
-  in_rest : MeetsSome l.a l.b (segments_of_polygons l.polygons) → MeetsSome l.a l.b (segments_of_polygons (drop l.polygon-index l.polygons));
-  from_rest : MeetsSome l.a l.b (segments_of_polygons (drop l.polygon-index l.polygons)) → MeetsSome l.a l.b (segments_of_polygons l.polygons);
-}
+invariant-loop-polygon l = SomeItemIsLeft (λ e. HaveCommonPoint l.a l.b e.0 e.1) (λ polygon. flat_map edges polygon.rings) l.polygons l.polygon-index

@@ -1,29 +1,15 @@
-use Rattle.std.proofs.Common.{refl}
-use Rattle.at_geom.specs.declared.positions.Pos.{Pos}
+use Rattle.std.proofs.Common.{ap}
 use Rattle.std.specs.Prelude.{flat_map}
 use Rattle.at_geom.specs.Segments.{edges}
-use Rattle.at_geom.specs.Shapes.{MeetsSome, segments, segments_of_points, segments_of_polygons}
-use Rattle.at_geom.proofs.Elements.{untrue, first_of_three, second_of_three, third_of_three, only_third}
+use Rattle.at_geom.specs.Shapes.{segments_of_points, segments_of_polygons}
+use Rattle.at_geom.proofs.Elements.{found_in_first, found_in_second, in_third}
 use Rattle.at_geom.proofs.meetings.segments_of_shapes_meet.Goals as goal
 
 pub returns-then-points_meet_shape : goal.returns-then-points_meet_shape
-returns-then-points_meet_shape c =
-    let at = λ (e : Pos × Pos). MeetsSome e.0 e.1 (segments c.args.b.now) in
-    let said = rw c.as_slice.ensures at c.points_meet_shape.ensures in
-    (λ _. first_of_three at (segments_of_points c.args.a.now.points) (flat_map edges c.args.a.now.lines) (segments_of_polygons c.args.a.now.polygons) (said.0 c.if-points_meet_shape.true), λ _. refl)
+returns-then-points_meet_shape c = found_in_first _ _ _ (ap segments_of_points c.as_slice.ensures) c.points_meet_shape.ensures c.if-points_meet_shape.true
 
 pub returns-then-paths_meet_shape : goal.returns-then-paths_meet_shape
-returns-then-paths_meet_shape c =
-    let at = λ (e : Pos × Pos). MeetsSome e.0 e.1 (segments c.args.b.now) in
-    let said = rw c.as_slice-2.ensures at c.paths_meet_shape.ensures in
-    (λ _. second_of_three at (segments_of_points c.args.a.now.points) (flat_map edges c.args.a.now.lines) (segments_of_polygons c.args.a.now.polygons) (said.0 c.if-paths_meet_shape.true), λ _. refl)
+returns-then-paths_meet_shape c = found_in_second _ _ _ (ap (flat_map edges) c.as_slice-2.ensures) c.paths_meet_shape.ensures c.if-paths_meet_shape.true
 
 pub returns : goal.returns
-returns c =
-    let at = λ (e : Pos × Pos). MeetsSome e.0 e.1 (segments c.args.b.now) in
-    let first = rw c.as_slice.ensures at c.points_meet_shape.ensures in
-    let second = rw c.as_slice-2.ensures at c.paths_meet_shape.ensures in
-    let third = rw c.as_slice-3.ensures at c.polygons_meet_shape.ensures in (
-      λ t. third_of_three at (segments_of_points c.args.a.now.points) (flat_map edges c.args.a.now.lines) (segments_of_polygons c.args.a.now.polygons) (third.0 t),
-      λ h. third.1 (only_third at (segments_of_points c.args.a.now.points) (flat_map edges c.args.a.now.lines) (segments_of_polygons c.args.a.now.polygons) (untrue c.points_meet_shape.result c.if-points_meet_shape.false first.1) (untrue c.paths_meet_shape.result c.if-paths_meet_shape.false second.1) h),
-    )
+returns c = in_third _ (ap segments_of_points c.as_slice.ensures) (ap (flat_map edges) c.as_slice-2.ensures) (ap segments_of_polygons c.as_slice-3.ensures) c.points_meet_shape.ensures c.if-points_meet_shape.false c.paths_meet_shape.ensures c.if-paths_meet_shape.false c.polygons_meet_shape.ensures

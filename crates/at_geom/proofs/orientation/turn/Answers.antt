@@ -9,18 +9,9 @@ overflow_sub-result c = omega (arith, ints)
 
 pub returns : goal.returns
 returns c =
-    let ax : FitsSigned w64 c.args.a.x = search rules in
-    let ay : FitsSigned w64 c.args.a.y = search rules in
-    let bx : FitsSigned w64 c.args.b.x = search rules in
-    let by : FitsSigned w64 c.args.b.y = search rules in
-    let cx : FitsSigned w64 c.args.c.x = search rules in
-    let cy : FitsSigned w64 c.args.c.y = search rules in
-    let d1 : FitsSigned w64 c.difference.result = search rules in
-    let d2 : FitsSigned w64 c.difference-2.result = search rules in
-    let d3 : FitsSigned w64 c.difference-3.result = search rules in
-    let d4 : FitsSigned w64 c.difference-4.result = search rules in
-    let f : FitsSigned w128 c.product-left.result = search rules in
-    let g : FitsSigned w128 c.product-right.result = search rules in
+    let (ax, ay, bx, by) : FitsSigned w64 c.args.a.x × FitsSigned w64 c.args.a.y × FitsSigned w64 c.args.b.x × FitsSigned w64 c.args.b.y = search rules in
+    let (cx, cy, d1, d2) : FitsSigned w64 c.args.c.x × FitsSigned w64 c.args.c.y × FitsSigned w64 c.difference.result × FitsSigned w64 c.difference-2.result = search rules in
+    let (d3, d4, f, g) : FitsSigned w64 c.difference-3.result × FitsSigned w64 c.difference-4.result × FitsSigned w128 c.product-left.result × FitsSigned w128 c.product-right.result = search rules in
     let h : FitsSigned w128 (c.product-left.result -ℤ c.product-right.result) = fits_signed_from_abs w128 _ (omega (arith, ints)) in
     let e1 = simp to_z-of_z at c.difference.ensures in
     let e2 = simp to_z-of_z at c.difference-2.ensures in

@@ -1,21 +1,9 @@
-use Rattle.std.proofs.Common.{refl, ◌∙◌, arith}
-use Rattle.at_geom.specs.declared.positions.Pos.{Pos}
-use Rattle.at_geom.specs.Shapes.{IsInSome}
-use Rattle.std.proofs.Common.{List}
-use Rattle.at_geom.proofs.Elements.{untrue, some_here, some_later, not_here}
+use Rattle.std.proofs.Common.{arith}
+use Rattle.at_geom.proofs.Elements.{found_in_item, not_in_item}
 use Rattle.at_geom.proofs.reaches.paths_reach.Goals as goal
 
 pub returns-then-path_reaches : goal.returns-then-path_reaches
-returns-then-path_reaches c =
-    let at = λ (p : Pos). IsInSome p c.args.polygons.now in
-    let found = c.path_reaches.ensures.0 c.if-path_reaches.true in
-    (λ _. c.loop-path.invariant.from_rest (some_here at (λ (path : List Pos). path) c.args.paths.now c.loop-path.path-index c.path-item.result c.as_slice.result.now (omega arith) (c.as_slice.ensures ∙ c.path-item.is) found), λ _. refl)
+returns-then-path_reaches c = found_in_item c.loop-path.invariant c.path-item.is (omega arith) c.as_slice.ensures c.path_reaches.ensures c.if-path_reaches.true
 
 pub loop-path-preserved : goal.loop-path-preserved
-loop-path-preserved c =
-    let at = λ (p : Pos). IsInSome p c.args.polygons.now in
-    let not_found = untrue c.path_reaches.result c.if-path_reaches.false c.path_reaches.ensures.1 in
-    record {
-      in_rest = λ h. not_here at (λ (path : List Pos). path) c.args.paths.now c.loop-path.path-index c.path-item.result c.as_slice.result.now (omega arith) (c.as_slice.ensures ∙ c.path-item.is) not_found (c.loop-path.invariant.in_rest h);
-      from_rest = λ h. c.loop-path.invariant.from_rest (some_later at (λ (path : List Pos). path) c.args.paths.now c.loop-path.path-index c.path-item.result (omega arith) h);
-    }
+loop-path-preserved c = not_in_item c.loop-path.invariant c.path-item.is (omega arith) c.as_slice.ensures c.path_reaches.ensures c.if-path_reaches.false

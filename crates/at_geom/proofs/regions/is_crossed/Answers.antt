@@ -8,14 +8,10 @@ use Rattle.at_geom.proofs.regions.is_crossed.Goals as goal
 pub returns-then-begins_low-ends_low : goal.returns-then-begins_low-ends_low
 returns-then-begins_low-ends_low c =
     let f : FitsSigned w128 c.args.side = c.ranges.side in
-    let a : FitsSigned w64 c.args.a.y = search rules in
-    let b : FitsSigned w64 c.args.b.y = search rules in
-    let p : FitsSigned w64 c.args.p.y = search rules in
+    let (a, b, p) : FitsSigned w64 c.args.a.y × FitsSigned w64 c.args.b.y × FitsSigned w64 c.args.p.y = search rules in
     simp to_z-of_z (passes c.args.p c.args.a c.args.b c.args.side c.requires.side_of_line c.requires.off_line (simp to_z-of_z at c.if-begins_low-ends_low.true))
 
 pub returns-else-begins_low-ends_low : goal.returns-else-begins_low-ends_low
 returns-else-begins_low-ends_low c =
-    let a : FitsSigned w64 c.args.a.y = search rules in
-    let b : FitsSigned w64 c.args.b.y = search rules in
-    let p : FitsSigned w64 c.args.p.y = search rules in
+    let (a, b, p) : FitsSigned w64 c.args.a.y × FitsSigned w64 c.args.b.y × FitsSigned w64 c.args.p.y = search rules in
     simp to_z-of_z (no_pass c.args.p c.args.a c.args.b (simp to_z-of_z at c.if-begins_low-ends_low.false))

@@ -6,14 +6,8 @@ use Rattle.at_geom.proofs.segments.boxes_overlap.Goals as goal
 
 pub returns-then-spans_overlap : goal.returns-then-spans_overlap
 returns-then-spans_overlap c =
-    let ax : FitsSigned w64 c.args.a.x = search rules in
-    let ay : FitsSigned w64 c.args.a.y = search rules in
-    let bx : FitsSigned w64 c.args.b.x = search rules in
-    let by : FitsSigned w64 c.args.b.y = search rules in
-    let cx : FitsSigned w64 c.args.c.x = search rules in
-    let cy : FitsSigned w64 c.args.c.y = search rules in
-    let dx : FitsSigned w64 c.args.d.x = search rules in
-    let dy : FitsSigned w64 c.args.d.y = search rules in
+    let (ax, ay, bx, by) : FitsSigned w64 c.args.a.x × FitsSigned w64 c.args.a.y × FitsSigned w64 c.args.b.x × FitsSigned w64 c.args.b.y = search rules in
+    let (cx, cy, dx, dy) : FitsSigned w64 c.args.c.x × FitsSigned w64 c.args.c.y × FitsSigned w64 c.args.d.x × FitsSigned w64 c.args.d.y = search rules in
     let x = simp to_z-of_z at c.spans_overlap.ensures in
     let y = simp to_z-of_z at c.spans_overlap-then-spans_overlap.ensures in
     let h = x.0 c.if-spans_overlap.true in

@@ -6,14 +6,8 @@ use Rattle.at_geom.proofs.rectangles.Extent.touches_box.Goals as goal
 
 pub returns-then-span_touches : goal.returns-then-span_touches
 returns-then-span_touches c =
-    let ax : FitsSigned w64 c.args.a.x = search rules in
-    let ay : FitsSigned w64 c.args.a.y = search rules in
-    let bx : FitsSigned w64 c.args.b.x = search rules in
-    let by : FitsSigned w64 c.args.b.y = search rules in
-    let lx : FitsSigned w64 c.args.self.low.x = search rules in
-    let ly : FitsSigned w64 c.args.self.low.y = search rules in
-    let hx : FitsSigned w64 c.args.self.high.x = search rules in
-    let hy : FitsSigned w64 c.args.self.high.y = search rules in
+    let (ax, ay, bx, by) : FitsSigned w64 c.args.a.x × FitsSigned w64 c.args.a.y × FitsSigned w64 c.args.b.x × FitsSigned w64 c.args.b.y = search rules in
+    let (lx, ly, hx, hy) : FitsSigned w64 c.args.self.low.x × FitsSigned w64 c.args.self.low.y × FitsSigned w64 c.args.self.high.x × FitsSigned w64 c.args.self.high.y = search rules in
     let x = simp to_z-of_z at c.span_touches.ensures in
     let y = simp to_z-of_z at c.span_touches-then-span_touches.ensures in
     let h = x.0 c.if-span_touches.true in
