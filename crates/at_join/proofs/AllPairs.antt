@@ -1,13 +1,13 @@
 -- The pairs of all cells, put in order, are all pairs that meet.
 -- For `pairs_grid`.
-use Rattle.std.proofs.Common.{◌≡◌, ℕ, zero, suc, ◌+◌, ◌<◌, ◌≤◌, ◌==◌, Bool, true, false, ◌&&◌, cond, List, [], ◌∷◌, ◌++◌, get_or, Option, Some, None, map, inl, inr, ◌⊎◌, arith, refl, sym, ap, subst, ◌∙◌}
+use Rattle.std.proofs.Common.{◌≡◌, ℕ, zero, suc, ◌+◌, ◌<◌, ◌≤◌, ◌==◌, Bool, true, false, cond, List, [], ◌∷◌, ◌++◌, get_or, Option, Some, None, map, inl, inr, ◌⊎◌, arith, refl, sym, ap, subst, ◌∙◌}
 use Rattle.std.specs.Prelude.{All, count_by, filter}
 use Rattle.std.specs.List.{AllByRecursion}
 use Rattle.std.specs.List.Sorted.{IsPermutation, IsNonDecreasingBy}
 use Rattle.std.proofs.lemmas.Bool.{cases_lt, eqb-true, eq-eqb, ne_eqb}
 use Rattle.std.proofs.lemmas.Int.{ints, clamps}
 use Rattle.std.proofs.lemmas.List.{map-append}
-use Rattle.std.proofs.lemmas.List.Sums.{sum_by-append, sum_by-cons}
+use Rattle.std.proofs.lemmas.List.Sums.{sum_by-cons}
 use Rattle.std.proofs.lemmas.List.Sorted.{sum_by-IsPermutation, All-permutation}
 use Rattle.std.proofs.lemmas.List.Elements.{recursion_from_All, All-head, All-tail}
 use Rattle.std.proofs.ByRecursion.{All-append}
@@ -29,11 +29,10 @@ use Rattle.at_join.specs.Boxes.{touch_of}
 use Rattle.at_join.specs.Meetings.{Meeting, at_entries, IsAllPairs}
 use Rattle.at_join.specs.Cells.{cell_of, spread_of, is_pair_of, InCells, is_pair, times, ListsEach}
 use Rattle.at_join.specs.Parts.{rank_of}
-use Rattle.at_join.proofs.FoundLists.{count_mapped}
 use Rattle.at_join.proofs.Extents.{from_touching, reference_inside, shape_span}
 use Rattle.at_join.proofs.CellRects.{cell_below}
-use Rattle.at_join.proofs.Offsets.{In, Rises, in_from, contains_from, of_all, one_entry, above, rest_rises, AreAbove}
-use Rattle.at_join.proofs.CellPairs.{gone, spread_round, pair_is, kept_times, same_pair, keeps_have, both_all, each_weaker}
+use Rattle.at_join.proofs.Offsets.{In, Rises, in_from, contains_from, of_all, one_entry, above, rest_rises, AreAbove, pair_times}
+use Rattle.at_join.proofs.CellPairs.{gone, spread_round, pair_is, kept_times, same_pair, keeps_have, both_all, each_weaker, all_pairs_of}
 use Rattle.at_join.proofs.PartLists.{times_none, times_cons}
 use Rattle.at_geom.proofs.Elements.{some_left, some_right}
 
@@ -113,36 +112,6 @@ entry_once n (y ∷ es) e r (inr h) at =
     let off = ap {B = ℕ} (λ b. cond b 1 0) (ne_eqb y.at n (λ s. omega (arith, lt, s, at))) in
     omega (arith, sum_by-cons (λ (z : Entry). cond (z.at == n) 1 0) y es, off, entry_once n es e (rest_rises y es r) h at)
 
-row_true : (p : Pair) (q : Entry) (ys : List Entry) → (q.at == p.first) ≡ true → count_by (λ (y : Entry). is_pair p (at_entries (q, y))) ys ≡ count_by (λ (z : Entry). z.at == p.second) ys
-row_true p q [] e = refl
-row_true p q (y ∷ ys) e =
-    sum_by-cons (λ (z : Entry). cond (is_pair p (at_entries (q, z))) 1 0) y ys
-    ∙ ap (λ n. cond (is_pair p (at_entries (q, y))) 1 0 + n) (row_true p q ys e)
-    ∙ ap (λ b. cond (b && (y.at == p.second)) 1 0 + count_by (λ (z : Entry). z.at == p.second) ys) e
-    ∙ sym (sum_by-cons (λ (z : Entry). cond (z.at == p.second) 1 0) y ys)
-
-row_false : (p : Pair) (q : Entry) (ys : List Entry) → (q.at == p.first) ≡ false → count_by (λ (y : Entry). is_pair p (at_entries (q, y))) ys ≡ 0
-row_false p q [] e = refl
-row_false p q (y ∷ ys) e =
-    sum_by-cons (λ (z : Entry). cond (is_pair p (at_entries (q, z))) 1 0) y ys
-    ∙ ap (λ n. cond (is_pair p (at_entries (q, y))) 1 0 + n) (row_false p q ys e)
-    ∙ ap (λ b. cond (b && (y.at == p.second)) 1 0 + 0) e
-
-row_by : (p : Pair) (q : Entry) (ys : List Entry) (b : Bool) → (q.at == p.first) ≡ b → count_by (λ (z : Entry). z.at == p.second) ys ≡ 1 → count_by (λ (y : Entry). is_pair p (at_entries (q, y))) ys ≡ cond b 1 0
-row_by p q ys true e one = row_true p q ys e ∙ one
-row_by p q ys false e one = row_false p q ys e
-
-entry_times : (p : Pair) (xs ys : List Entry) → count_by (λ (z : Entry). z.at == p.second) ys ≡ 1 → times p (map at_entries (pairs_of xs ys)) ≡ count_by (λ (z : Entry). z.at == p.first) xs
-entry_times p [] ys one = refl
-entry_times p (q ∷ xs) ys one =
-    let row : List (Entry × Entry) = map (λ (y : Entry). (q, y)) ys in
-    let whole = count_mapped (is_pair p) at_entries (row ++ pairs_of xs ys) in
-    let parts = sum_by-append (λ (z : Entry × Entry). cond (is_pair p (at_entries z)) 1 0) row (pairs_of xs ys) in
-    let first = count_mapped (λ (z : Entry × Entry). is_pair p (at_entries z)) (λ (y : Entry). (q, y)) ys ∙ row_by p q ys (q.at == p.first) refl one in
-    let rest = sym (count_mapped (is_pair p) at_entries (pairs_of xs ys)) ∙ entry_times p xs ys one in
-    let goal = sum_by-cons (λ (z : Entry). cond (z.at == p.first) 1 0) q xs in
-    omega (arith, whole, parts, first, rest, goal)
-
 -- ---- what is kept of all pairs
 
 filter_by : {X : Type 0} (P : X → Type 0) (x : X) (xs ks : List X) (b : Bool) → (b ≡ true → P x) → (P x → b ≡ true) → Keeps P xs ks → Keeps P (x ∷ xs) (cond b (x ∷ ks) ks)
@@ -156,14 +125,6 @@ keeps_filter P test (x ∷ xs) h = filter_by P x xs (filter test xs) (test x) h.
 -- both are entries of the lists
 abbrev AreIn : List Entry → List Entry → Entry × Entry → Type 0
 AreIn a b (e, f) = In e a × In f b
-
-in_row : (a b : List Entry) (e : Entry) (fs : List Entry) → In e a → AllByRecursion (λ (f : Entry). In f b) fs → AllByRecursion (AreIn a b) (map (λ (f : Entry). (e, f)) fs)
-in_row a b e [] h k = tt
-in_row a b e (f ∷ fs) h k = ((h, k.0), in_row a b e fs h k.1)
-
-in_rows : (a b es fs : List Entry) → AllByRecursion (λ (e : Entry). In e a) es → AllByRecursion (λ (f : Entry). In f b) fs → AllByRecursion (AreIn a b) (pairs_of es fs)
-in_rows a b [] fs h k = tt
-in_rows a b (e ∷ es) fs h k = All-append (AreIn a b) (map (λ (f : Entry). (e, f)) fs) (pairs_of es fs) (in_row a b e fs h.0 k) (in_rows a b es fs h.1 k)
 
 in_itself : {X : Type 0} (xs : List X) → AllByRecursion (λ (x : X). In x xs) xs
 in_itself [] = tt
@@ -318,7 +279,7 @@ times_by a b p qs X kept eX pa pb keeps inside all all_kept once (suc n) is =
     let meets = each_weaker (AreIn a b) (λ (z : Entry × Entry). at_entries z ≡ p → Meeting z) (λ z k same. in_meets a b z.0 z.1 p pa pb k.0 k.1 same w) X inside in
     let one_b = entry_once p.second b w.second pb.rising (in_from b w.second w.of_second) (sym (ap (λ (z : Pair). z.second) w.is)) in
     let one_a = entry_once p.first a w.first pa.rising (in_from a w.first w.of_first) (sym (ap (λ (z : Pair). z.first) w.is)) in
-    once p w ∙ sym (kept_times Meeting at_entries p X kept keeps meets ∙ ap (λ l. times p (map at_entries l)) eX ∙ entry_times p a b one_b ∙ one_a)
+    once p w ∙ sym (kept_times Meeting at_entries p X kept keeps meets ∙ ap (λ l. times p (map at_entries l)) eX ∙ pair_times (λ (e : Entry). e.at) at_entries (λ x y. refl) p a b one_b ∙ one_a)
 
 pub all_pairs : (a b : List Entry) (ps qs : List Pair) → AreProper a → AreProper b → ListsEach (InCells a b 0 64) ps → IsPermutation ps qs → IsNonDecreasingBy rank_of qs → All Fits qs → IsAllPairs a b qs
 all_pairs a b ps qs pa pb each moved sorted fits =
@@ -327,7 +288,7 @@ all_pairs a b ps qs pa pb each moved sorted fits =
     let test : Entry × Entry → Bool = λ z. times (at_entries z) qs == 1 in
     let once : (p : Pair) → W p → times p qs ≡ 1 = λ p w. sum_by-IsPermutation (λ q. cond (is_pair p q) 1 0) ps qs moved ∙ each.once p w in
     let all = recursion_from_All W qs (All-permutation W ps qs moved each.no_other) in
-    let inside = in_rows a b a b (in_itself a) (in_itself b) in
+    let inside = all_pairs_of (λ (e : Entry). In e a) (λ (f : Entry). In f b) (AreIn a b) (λ e f h k. (h, k)) a b (in_itself a) (in_itself b) in
     let known : AllByRecursion (λ (z : Entry × Entry). (test z ≡ true → Meeting z) × (Meeting z → test z ≡ true)) X =
     each_weaker (AreIn a b) (λ (z : Entry × Entry). (test z ≡ true → Meeting z) × (Meeting z → test z ≡ true))
     (λ z k. (

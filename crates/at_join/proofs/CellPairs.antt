@@ -130,20 +130,22 @@ pub both_all : {X Y : Type 0} (P Q : X → Type 0) (R : Y → Type 0) (f : X →
 both_all P Q R f to [] h k = tt
 both_all P Q R f to (x ∷ xs) h k = (to x h.0 k.0, both_all P Q R f to xs h.1 k.1)
 
+pub all_mapped : {X Y : Type 0} (P : X → Type 0) (R : Y → Type 0) (f : X → Y) → ((x : X) → P x → R (f x)) → (xs : List X) → AllByRecursion P xs → AllByRecursion R (map f xs)
+all_mapped P R f to [] h = tt
+all_mapped P R f to (x ∷ xs) h = (to x h.0, all_mapped P R f to xs h.1)
+
+pub all_pairs_of : {X : Type 0} (P Q : X → Type 0) (R : X × X → Type 0) → ((x y : X) → P x → Q y → R (x, y)) → (xs ys : List X) → AllByRecursion P xs → AllByRecursion Q ys → AllByRecursion R (pairs_of xs ys)
+all_pairs_of P Q R to [] ys h k = tt
+all_pairs_of {X} P Q R to (x ∷ xs) ys h k =
+    let row : List (X × X) = map (λ (y : X). (x, y)) ys in
+    All-append R row (pairs_of xs ys) (all_mapped Q R (λ (y : X). (x, y)) (λ y q. to x y h.0 q) ys k) (all_pairs_of P Q R to xs ys h.1 k)
+
 pub each_weaker : {X : Type 0} (P Q : X → Type 0) → ((x : X) → P x → Q x) → (xs : List X) → AllByRecursion P xs → AllByRecursion Q xs
 each_weaker P Q to [] h = tt
 each_weaker P Q to (x ∷ xs) h = (to x h.0, each_weaker P Q to xs h.1)
 
 abbrev AreKnown : List Entry → List Entry → Outline × Outline → Type 0
 AreKnown a b (p, q) = IsOutlineOf a p × IsOutlineOf b q
-
-known_row : (a b : List Entry) (p : Outline) (ys : List Outline) → IsOutlineOf a p → AllByRecursion (IsOutlineOf b) ys → AllByRecursion (AreKnown a b) (map (λ (y : Outline). (p, y)) ys)
-known_row a b p [] h k = tt
-known_row a b p (y ∷ ys) h k = ((h, k.0), known_row a b p ys h k.1)
-
-known_pairs : (a b : List Entry) (xs ys : List Outline) → AllByRecursion (IsOutlineOf a) xs → AllByRecursion (IsOutlineOf b) ys → AllByRecursion (AreKnown a b) (pairs_of xs ys)
-known_pairs a b [] ys h k = tt
-known_pairs a b (x ∷ xs) ys h k = All-append (AreKnown a b) (map (λ (y : Outline). (x, y)) ys) (pairs_of xs ys) (known_row a b x ys h.0 k) (known_pairs a b xs ys h.1 k)
 
 pub pair_is : (p q : Pair) → is_pair p q ≡ true → q ≡ p
 pair_is p q h =
@@ -180,7 +182,7 @@ cell_lists a b j cell ps g (kept, h, e) =
     let P = CellHit (rect_of j cell) a.entries b.entries in
     let W = InCells a.entries b.entries cell (cell + 1) in
     let X = pairs_of a.outlines.items b.outlines.items in
-    let known = known_pairs a.entries b.entries a.outlines.items b.outlines.items (recursion_from_All (IsOutlineOf a.entries) a.outlines.items g.of_first.indices) (recursion_from_All (IsOutlineOf b.entries) b.outlines.items g.of_second.indices) in
+    let known = all_pairs_of (IsOutlineOf a.entries) (IsOutlineOf b.entries) (AreKnown a.entries b.entries) (λ x y h k. (h, k)) a.outlines.items b.outlines.items (recursion_from_All (IsOutlineOf a.entries) a.outlines.items g.of_first.indices) (recursion_from_All (IsOutlineOf b.entries) b.outlines.items g.of_second.indices) in
     record {
       once = λ r w.
           let ext = an_extent a.entries b.entries (spread_of (a.entries ++ b.entries)) w.cell w.first w.second w.here in
@@ -189,7 +191,7 @@ cell_lists a b j cell ps g (kept, h, e) =
           let one_b = outline_once r.second b.entries b.outlines.items w.second ext.1.0 g.of_second.outlines g.second.rising (in_from b.entries w.second w.of_second) (sym second) ext.1.1 in
           let one_a = outline_once r.first a.entries a.outlines.items w.first ext.0.0 g.of_first.outlines g.first.rising (in_from a.entries w.first w.of_first) (sym first) ext.0.1 in
           let hits = each_weaker (AreKnown a.entries b.entries) (λ (x : Outline × Outline). at_outlines x ≡ r → P x) (λ x k same. hit_from_wanted a b j cell x.0 x.1 r g k.0 k.1 w same) X known in
-          ap (times r) e ∙ kept_times P at_outlines r X kept h hits ∙ pair_times r a.outlines.items b.outlines.items one_b ∙ one_a;
+          ap (times r) e ∙ kept_times P at_outlines r X kept h hits ∙ pair_times (λ (q : Outline). q.at) at_outlines (λ x y. refl) r a.outlines.items b.outlines.items one_b ∙ one_a;
       no_other = subst (All W) (sym e) (All-from_recursion W (map at_outlines kept)
           (both_all (AreKnown a.entries b.entries) P W at_outlines (λ x k hit. wanted_from_hit a b j cell x.0 x.1 g k.0 k.1 hit) kept (kept_all P (AreKnown a.entries b.entries) X kept h known) (keeps_have P X kept h)));
     }
@@ -202,12 +204,3 @@ cell_told a b j cell rect old new ps g e f h found =
     (cell_lists a b j cell new g
     (subst (λ l. Finds (CellHit (rect_of j cell) a.entries b.entries) at_outlines (pairs_of a.outlines.items b.outlines.items) l new) f
     (subst (λ r. Finds (CellHit r a.entries b.entries) at_outlines (pairs_of a.outlines.items b.outlines.items) old new) e found)))
-
-not_here : (x y : Option Extent) (cell : ℕ) → is_pair_of None x y cell ≡ true → ⊥
-not_here x y cell h = cc
-
-pub nothing_told : (a b : Side) (cell : ℕ) (ps : List Pair) → IsGrid a b None → ps ≡ [] → ListsEach (InCells a.entries b.entries cell (cell + 1)) ps
-nothing_told a b cell ps g e = subst (ListsEach (InCells a.entries b.entries cell (cell + 1))) (sym e) (record {
-  once = λ r w. absurd (not_here w.first.extent w.second.extent w.cell (ap (λ o. is_pair_of o w.first.extent w.second.extent w.cell) g.joint ∙ w.here));
-  no_other = All-from_recursion (InCells a.entries b.entries cell (cell + 1)) [] tt;
-})

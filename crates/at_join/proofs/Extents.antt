@@ -45,21 +45,18 @@ from_touching x y t =
     from_four (int_le x.low.x y.high.x) (int_le y.low.x x.high.x) (int_le x.low.y y.high.y) (int_le y.low.y x.high.y)
     (le_true _ _ t.left) (le_true _ _ t.right) (le_true _ _ t.below) (le_true _ _ t.above)
 
-pub record Enclosing (x y : Extent) : Type 0 where
-  pub left : x.low.x ≤ℤ y.low.x
-  pub right : y.high.x ≤ℤ x.high.x
-  pub below : x.low.y ≤ℤ y.low.y
-  pub above : y.high.y ≤ℤ x.high.y
+-- x encloses y where it touches y with its corners exchanged
+abbrev turned : Extent → Extent
+turned y = record { low = y.high; high = y.low }
+
+abbrev Enclosing : Extent → Extent → Type 0
+Enclosing x y = Touching x (turned y)
 
 enclosing : (x y : Extent) → encloses x y ≡ true → Enclosing x y
-enclosing x y h =
-    let t = four_true (int_le x.low.x y.low.x) (int_le y.high.x x.high.x) (int_le x.low.y y.low.y) (int_le y.high.y x.high.y) h in
-    record { left = le_from _ _ t.0; right = le_from _ _ t.1; below = le_from _ _ t.2; above = le_from _ _ t.3 }
+enclosing x y h = touching x (turned y) h
 
 from_enclosing : (x y : Extent) → Enclosing x y → encloses x y ≡ true
-from_enclosing x y t =
-    from_four (int_le x.low.x y.low.x) (int_le y.high.x x.high.x) (int_le x.low.y y.low.y) (int_le y.high.y x.high.y)
-    (le_true _ _ t.left) (le_true _ _ t.right) (le_true _ _ t.below) (le_true _ _ t.above)
+from_enclosing x y t = from_touching x (turned y) t
 
 -- what is in an extent that is off a window is off the window
 pub covered_off : (c y w : Extent) → encloses c y ≡ true → touch_of c w ≡ false → touch_of y w ≡ false

@@ -12,6 +12,21 @@ use Rattle.at_query.specs.Results.{Keeps, pairs_of}
 use Rattle.at_query.proofs.KeptLists.{keeps-append, keeps_one, drops_one}
 use Rattle.at_join.specs.Meetings.{Finds}
 
+-- what passes on from each front of a list to the next holds of all later fronts
+climb_n : {X : Type 0} (xs : List X) (G : List X → Type 0) (n i : ℕ) → ((m : ℕ) → i ≤ m → m < i + n → m < length xs → G (take m xs) → G (take (m + 1) xs)) → G (take i xs) → G (take (i + n) xs)
+climb_n xs G zero i step h = subst (λ (m : ℕ). G (take m xs)) (omega arith) h
+climb_n {X} xs G (suc n) i step h =
+    let before = climb_n xs G n i (λ m from to lt. step m from (omega (arith, to)) lt) h in
+    elim (cases_lt (i + n) (length xs)) [
+      | inl lt ↦ subst (λ (m : ℕ). G (take m xs)) (omega arith) (step (i + n) (omega arith) (omega arith) lt before)
+      | inr ge ↦ subst (λ (l : List X). G l) (take_all (i + n) xs ge ∙ sym (take_all (i + suc n) xs (omega (arith, ge)))) before
+    ]
+
+climb : {X : Type 0} (xs : List X) (G : List X → Type 0) (i j : ℕ) → i ≤ j → ((m : ℕ) → i ≤ m → m < j → m < length xs → G (take m xs) → G (take (m + 1) xs)) → G (take i xs) → G (take j xs)
+climb xs G i j le step h =
+    let e : i + (j - i) ≡ j = omega (arith, le) in
+    subst (λ (m : ℕ). G (take m xs)) e (climb_n xs G (j - i) i (λ m from to lt. step m from (omega (arith, to, le)) lt) h)
+
 module _ {X Y : Type 0} (P : X → Type 0) (f : X → Y) where
   pub finds_none : (old : List Y) → Finds P f [] old old
   finds_none old = ([], refl, sym (append-nil old))
@@ -30,21 +45,9 @@ module _ {X Y : Type 0} (P : X → Type 0) (f : X → Y) where
   pub finds_more : (xs : List X) (i : ℕ) (d : X) (old mid new : List Y) → i < length xs → Finds P f (take i xs) old mid → Finds P f (get_or xs i d ∷ []) mid new → Finds P f (take (i + 1) xs) old new
   finds_more xs i d old mid new lt h k = subst (λ (l : List X). Finds P f l old new) (sym (take_more xs i d lt)) (finds_both (take i xs) (get_or xs i d ∷ []) old mid new h k)
 
-  -- n elements more, none of which has the property
-  finds_past_n : (n : ℕ) (xs : List X) (i : ℕ) (d : X) (old new : List Y) → ((k : ℕ) → i ≤ k → k < i + n → k < length xs → ¬ P (get_or xs k d)) → Finds P f (take i xs) old new → Finds P f (take (i + n) xs) old new
-  finds_past_n zero xs i d old new miss h = subst (λ (m : ℕ). Finds P f (take m xs) old new) (omega arith) h
-  finds_past_n (suc n) xs i d old new miss h =
-      let before = finds_past_n n xs i d old new (λ k a b c. miss k a (omega (arith, b)) c) h in
-      elim (cases_lt (i + n) (length xs)) [
-        | inl lt ↦ subst (λ (m : ℕ). Finds P f (take m xs) old new) (omega arith)
-            (finds_more xs (i + n) d old new new lt before (finds_not (get_or xs (i + n) d) new (miss (i + n) (omega arith) (omega arith) lt)))
-        | inr ge ↦ subst (λ (l : List X). Finds P f l old new) (take_all (i + n) xs ge ∙ sym (take_all (i + suc n) xs (omega (arith, ge)))) before
-      ]
-
+  -- elements more, none of which has the property
   pub finds_past : (xs : List X) (i j : ℕ) (d : X) (old new : List Y) → i ≤ j → ((k : ℕ) → i ≤ k → k < j → k < length xs → ¬ P (get_or xs k d)) → Finds P f (take i xs) old new → Finds P f (take j xs) old new
-  finds_past xs i j d old new le miss h =
-      let e : i + (j - i) ≡ j = omega (arith, le) in
-      subst (λ (m : ℕ). Finds P f (take m xs) old new) e (finds_past_n (j - i) xs i d old new (λ k a b c. miss k a (omega (arith, b, le)) c) h)
+  finds_past xs i j d old new le miss h = climb xs (λ l. Finds P f l old new) i j le (λ m from to lt k. finds_more xs m d old new new lt k (finds_not (get_or xs m d) new (miss m from to lt))) h
 
 keeps_same : {X : Type 0} (P Q : X → Type 0) → ((x : X) → P x → Q x) → ((x : X) → Q x → P x) → (xs ks : List X) → Keeps P xs ks → Keeps Q xs ks
 keeps_same P Q to from [] ks e = e
@@ -88,22 +91,11 @@ no_row P f [] old miss = finds_none P f old
 no_row P f (x ∷ xs) old miss = finds_both P f (x ∷ []) xs old old old (finds_not P f x old (miss x)) (no_row P f xs old miss)
 
 -- elements of the first list, of which none has a pair
-past_rows_n : {X Y : Type 0} (P : X × X → Type 0) (f : X × X → Y) (n : ℕ) (xs ys : List X) (i : ℕ) (d : X) (old new : List Y)
-    → ((k : ℕ) (y : X) → i ≤ k → k < i + n → k < length xs → ¬ P (get_or xs k d, y)) → Finds P f (pairs_of (take i xs) ys) old new → Finds P f (pairs_of (take (i + n) xs) ys) old new
-past_rows_n P f zero xs ys i d old new miss h = subst (λ (m : ℕ). Finds P f (pairs_of (take m xs) ys) old new) (omega arith) h
-past_rows_n {X} {Y} P f (suc n) xs ys i d old new miss h =
-    let before = past_rows_n P f n xs ys i d old new (λ k y a b c. miss k y a (omega (arith, b)) c) h in
-    elim (cases_lt (i + n) (length xs)) [
-      | inl lt ↦ subst (λ (m : ℕ). Finds P f (pairs_of (take m xs) ys) old new) (omega arith)
-          (finds_row P f xs ys (i + n) d old new new lt before (no_row (λ (y : X). P (get_or xs (i + n) d, y)) (λ (y : X). f (get_or xs (i + n) d, y)) ys new (λ y. miss (i + n) y (omega arith) (omega arith) lt)))
-      | inr ge ↦ subst (λ (l : List X). Finds P f (pairs_of l ys) old new) (take_all (i + n) xs ge ∙ sym (take_all (i + suc n) xs (omega (arith, ge)))) before
-    ]
-
 pub past_rows : {X Y : Type 0} (P : X × X → Type 0) (f : X × X → Y) (xs ys : List X) (i j : ℕ) (d : X) (old new : List Y) → i ≤ j
     → ((k : ℕ) (y : X) → i ≤ k → k < j → k < length xs → ¬ P (get_or xs k d, y)) → Finds P f (pairs_of (take i xs) ys) old new → Finds P f (pairs_of (take j xs) ys) old new
-past_rows P f xs ys i j d old new le miss h =
-    let e : i + (j - i) ≡ j = omega (arith, le) in
-    subst (λ (m : ℕ). Finds P f (pairs_of (take m xs) ys) old new) e (past_rows_n P f (j - i) xs ys i d old new (λ k y a b c. miss k y a (omega (arith, b, le)) c) h)
+past_rows {X} P f xs ys i j d old new le miss h =
+    climb xs (λ l. Finds P f (pairs_of l ys) old new) i j le
+    (λ m from to lt k. finds_row P f xs ys m d old new new lt k (no_row (λ (y : X). P (get_or xs m d, y)) (λ (y : X). f (get_or xs m d, y)) ys new (λ y. miss m y from to lt))) h
 
 -- ---- counts
 

@@ -15,7 +15,7 @@ use Rattle.at_query.specs.Parts.{AreRising}
 use Rattle.at_join.specs.declared.outlines.Outline.{Outline}
 use Rattle.at_query.specs.Results.{pairs_of}
 use Rattle.at_join.specs.Cells.{is_pair, times}
-use Rattle.at_join.specs.Sides.{outline_of, outlined, at_outlines}
+use Rattle.at_join.specs.Sides.{outline_of, outlined}
 use Rattle.at_join.proofs.FoundLists.{count_mapped}
 
 abbrev pub In : {X : Type 0} → X → List X → Type 0
@@ -107,34 +107,35 @@ outlined_once n k (y ∷ es) e x r (inr h) at is =
 pub outline_once : (n : ℕ) (es : List Entry) (outlines : List Outline) (e : Entry) (x : Extent) → IsPermutation (outlined 0 es) outlines → Rises es → In e es → e.at ≡ n → e.extent ≡ Some x → count_by (has n) outlines ≡ 1
 outline_once n es outlines e x moved r h at is = sum_by-IsPermutation (λ q. cond (has n q) 1 0) (outlined 0 es) outlines moved ∙ outlined_once n 0 es e x r h at is
 
--- ---- how often a pair of offsets stands among the pairs of outlines
+-- ---- how often a pair of offsets stands among the pairs
 
-row_times_true : (p : Pair) (q : Outline) (ys : List Outline) → (q.at == p.first) ≡ true → count_by (λ (y : Outline). is_pair p (at_outlines (q, y))) ys ≡ count_by (has p.second) ys
-row_times_true p q [] e = refl
-row_times_true p q (y ∷ ys) e =
-    sum_by-cons (λ (z : Outline). cond (is_pair p (at_outlines (q, z))) 1 0) y ys
-    ∙ ap (λ n. cond (is_pair p (at_outlines (q, y))) 1 0 + n) (row_times_true p q ys e)
-    ∙ ap (λ b. cond (b && (y.at == p.second)) 1 0 + count_by (has p.second) ys) e
-    ∙ sym (sum_by-cons (λ (z : Outline). cond (has p.second z) 1 0) y ys)
+-- where each element has a number, and a pair those of its elements
+module _ {X : Type 0} (number : X → ℕ) (made : X × X → Pair) (is : (x y : X) → made (x, y) ≡ record { first = number x; second = number y }) where
+  row_times : (p : Pair) (q : X) (ys : List X) (b : Bool) → (number q == p.first) ≡ b → count_by (λ (y : X). is_pair p (made (q, y))) ys ≡ cond b (count_by (λ (y : X). number y == p.second) ys) 0
+  row_times p q [] true e = refl
+  row_times p q [] false e = refl
+  row_times p q (y ∷ ys) true e =
+      sum_by-cons (λ (z : X). cond (is_pair p (made (q, z))) 1 0) y ys
+      ∙ ap (λ n. cond (is_pair p (made (q, y))) 1 0 + n) (row_times p q ys true e)
+      ∙ ap (λ (r : Pair). cond (is_pair p r) 1 0 + count_by (λ (z : X). number z == p.second) ys) (is q y)
+      ∙ ap (λ b. cond (b && (number y == p.second)) 1 0 + count_by (λ (z : X). number z == p.second) ys) e
+      ∙ sym (sum_by-cons (λ (z : X). cond (number z == p.second) 1 0) y ys)
+  row_times p q (y ∷ ys) false e =
+      sum_by-cons (λ (z : X). cond (is_pair p (made (q, z))) 1 0) y ys
+      ∙ ap (λ n. cond (is_pair p (made (q, y))) 1 0 + n) (row_times p q ys false e)
+      ∙ ap (λ (r : Pair). cond (is_pair p r) 1 0 + 0) (is q y)
+      ∙ ap (λ b. cond (b && (number y == p.second)) 1 0 + 0) e
 
-row_times_false : (p : Pair) (q : Outline) (ys : List Outline) → (q.at == p.first) ≡ false → count_by (λ (y : Outline). is_pair p (at_outlines (q, y))) ys ≡ 0
-row_times_false p q [] e = refl
-row_times_false p q (y ∷ ys) e =
-    sum_by-cons (λ (z : Outline). cond (is_pair p (at_outlines (q, z))) 1 0) y ys
-    ∙ ap (λ n. cond (is_pair p (at_outlines (q, y))) 1 0 + n) (row_times_false p q ys e)
-    ∙ ap (λ b. cond (b && (y.at == p.second)) 1 0 + 0) e
+  one_row : (b : Bool) (n : ℕ) → n ≡ 1 → cond b n 0 ≡ cond b 1 0
+  one_row b n e = ap (λ m. cond b m 0) e
 
-row_times : (p : Pair) (q : Outline) (ys : List Outline) (b : Bool) → (q.at == p.first) ≡ b → count_by (has p.second) ys ≡ 1 → count_by (λ (y : Outline). is_pair p (at_outlines (q, y))) ys ≡ cond b 1 0
-row_times p q ys true e one = row_times_true p q ys e ∙ one
-row_times p q ys false e one = row_times_false p q ys e
-
-pub pair_times : (p : Pair) (xs ys : List Outline) → count_by (has p.second) ys ≡ 1 → times p (map at_outlines (pairs_of xs ys)) ≡ count_by (has p.first) xs
-pair_times p [] ys one = refl
-pair_times p (q ∷ xs) ys one =
-    let row : List (Outline × Outline) = map (λ (y : Outline). (q, y)) ys in
-    let whole = count_mapped (is_pair p) at_outlines (row ++ pairs_of xs ys) in
-    let parts = count_joined (λ (z : Outline × Outline). is_pair p (at_outlines z)) row (pairs_of xs ys) in
-    let first = count_mapped (λ (z : Outline × Outline). is_pair p (at_outlines z)) (λ (y : Outline). (q, y)) ys ∙ row_times p q ys (has p.first q) refl one in
-    let rest = sym (count_mapped (is_pair p) at_outlines (pairs_of xs ys)) ∙ pair_times p xs ys one in
-    let goal = sum_by-cons (λ (z : Outline). cond (has p.first z) 1 0) q xs in
-    omega (arith, whole, parts, first, rest, goal)
+  pub pair_times : (p : Pair) (xs ys : List X) → count_by (λ (y : X). number y == p.second) ys ≡ 1 → times p (map made (pairs_of xs ys)) ≡ count_by (λ (x : X). number x == p.first) xs
+  pair_times p [] ys one = refl
+  pair_times p (q ∷ xs) ys one =
+      let row : List (X × X) = map (λ (y : X). (q, y)) ys in
+      let whole = count_mapped (is_pair p) made (row ++ pairs_of xs ys) in
+      let parts = count_joined (λ (z : X × X). is_pair p (made z)) row (pairs_of xs ys) in
+      let first = count_mapped (λ (z : X × X). is_pair p (made z)) (λ (y : X). (q, y)) ys ∙ (row_times p q ys (number q == p.first) refl ∙ one_row (number q == p.first) _ one) in
+      let rest = sym (count_mapped (is_pair p) made (pairs_of xs ys)) ∙ pair_times p xs ys one in
+      let goal = sum_by-cons (λ (x : X). cond (number x == p.first) 1 0) q xs in
+      omega (arith, whole, parts, first, rest, goal)

@@ -1,36 +1,9 @@
--- Rectangles for the tests.
+-- Lists of proper entries that grow, for the tests.
 -- For the crates above.
 use Rattle.std.proofs.Common.{◌≡◌, ℕ, ◌+◌, ◌<◌, List, [], ◌∷◌, ◌++◌, map, arith, subst, sym}
-use Rattle.std.specs.Prelude.{All}
 use Rattle.std.specs.List.{AllByRecursion}
-use Rattle.std.proofs.lemmas.List.Elements.{All-from_recursion}
-use Rattle.at_geom.specs.declared.positions.Pos.{Pos}
-use Rattle.at_geom.specs.declared.shapes.Polygon.{Polygon}
-use Rattle.at_geom.specs.declared.shapes.Shape.{Shape}
-use Rattle.at_geom.specs.Segments.{IsInRange}
-use Rattle.at_geom.specs.Shapes.{IsShapeInRange}
 use Rattle.at_query.specs.declared.answer.parts.Entry.{Entry}
 use Rattle.at_query.specs.Parts.{AreRising, IsProperEntry}
-
-abbrev pub ring : Pos → Pos → List Pos
-ring low high = low ∷ record { x = high.x; y = low.y } ∷ high ∷ record { x = low.x; y = high.y } ∷ low ∷ []
-
-abbrev pub polygons_of : List Pos → List Polygon
-polygons_of r = record { rings = r ∷ [] } ∷ []
-
-abbrev pub shape : List Pos → Shape
-shape r = record { points = []; lines = []; polygons = polygons_of r }
-
-ring_in_range : (low high : Pos) → IsInRange low → IsInRange high → All IsInRange (ring low high)
-ring_in_range low high h k = All-from_recursion IsInRange (ring low high) (h, ((k.0, h.1), (k, ((h.0, k.1), (h, tt)))))
-
-pub shape_in_range : (low high : Pos) → IsInRange low → IsInRange high → IsShapeInRange (shape (ring low high))
-shape_in_range low high h k = record {
-  points = All-from_recursion IsInRange [] tt;
-  lines = All-from_recursion (All IsInRange) [] tt;
-  polygons = All-from_recursion (λ (p : Polygon). All (All IsInRange) p.rings) (polygons_of (ring low high))
-      (All-from_recursion (All IsInRange) (ring low high ∷ []) (ring_in_range low high h k, tt), tt);
-}
 
 all_more : (P : Entry → Type 0) (es : List Entry) (e : Entry) → AllByRecursion P es → P e → AllByRecursion P (es ++ e ∷ [])
 all_more P [] e h p = (p, tt)
