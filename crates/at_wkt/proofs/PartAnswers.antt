@@ -1,19 +1,19 @@
 -- What the functions that read parts in brackets answer.
 -- For `read_line`, `read_geometry` and `Room::check_line`: the readers of `src/parts.rt`.
-use Rattle.std.proofs.Common.{lit<, ◌≡◌, ℕ, ◌+◌, ◌-◌, ◌<◌, ◌≤◌, Bool, true, false, ◌==◌, List, [], ◌∷◌, ◌++◌, length, map, flat_map, codes, Some, None, Result, refl, sym, ◌∙◌, ap, subst, arith, append-nil, append_assoc}
+use Rattle.std.proofs.Common.{lit<, ◌≡◌, ℕ, ◌+◌, ◌-◌, ◌<◌, ◌≤◌, Bool, true, false, ◌==◌, List, [], ◌∷◌, ◌++◌, length, map, flat_map, codes, Some, None, Result, refl, sym, ◌∙◌, ap, subst, arith, append-nil, append_assoc, true≢false}
 use native.Mathlib.Decide.{dec_lt}
 use Rattle.std.specs.Result.{MatchResult}
-use Rattle.at_wkt.proofs.Names.{Fault, first_of, Pos, Dimension, Halt, Rules, PositionRead, PathRead, Role, Read, ItemRead, Position, Positions, position_faults, path_of, faults_of_ring, polygons_of, faults_of_area, SpellsPosition, SpellsRing, SpellsPoint, SpellsPointMember, EmptyOrParted, is_blank, between, IfStopped, next, Spelt, Stuck, SkipsBlanks, Delimiter, Item, Items, HasCount, KeywordStands, KeywordBreaks, DelimiterStands, DelimiterBreaks, opens, PositionStands, PathStands, PartStands, ItemStands, ItemsSoFar, Grows, EnclosedPosition, added_position, added_path, added_point, point_faults, faults_of_path}
+use Rattle.at_wkt.proofs.Names.{Fault, first_of, Pos, Dimension, Halt, Rules, PositionRead, PathRead, Role, Read, ItemRead, Position, Positions, position_faults, path_of, polygons_of, faults_of_area, SpellsPosition, SpellsRing, SpellsArea, SpellsPoint, SpellsPointMember, EmptyOrParted, is_blank, between, IfStopped, next, Spelt, Stuck, SkipsBlanks, Delimiter, Item, Items, HasCount, KeywordStands, KeywordBreaks, DelimiterStands, DelimiterBreaks, opens, PositionStands, PathStands, PartStands, ItemStands, ItemsSoFar, Grows, EnclosedPosition, added_position, added_path, added_point, point_faults, faults_of_path}
 use Rattle.at_geom.specs.declared.shapes.Polygon.{Polygon as PolygonOf}
 use Rattle.at_fixed.proofs.DigitParts.{part-part}
-use Rattle.at_wkt.proofs.Leads.{part-cons, Begins, counts}
+use Rattle.at_wkt.proofs.Leads.{part-cons, Begins, Inhabited, counts}
 use Rattle.at_wkt.proofs.ByteSteps.{byte_inside, test_eq}
 use Rattle.at_wkt.proofs.Agreement.{byte_passes}
 use Rattle.at_wkt.proofs.Steps.{no_blank, AreBlanks, not_blank, stuck_first, when_leads}
 use Rattle.at_wkt.proofs.ItemSteps.{delimiter_spelt, delimiter_stuck}
-use Rattle.at_wkt.proofs.ListSteps.{item_stuck, item_spelt, item_unended, bracket_leads, enclosed_leads, last_spelt, last_stuck, comma_stuck, position_inhabited, ended_begins}
+use Rattle.at_wkt.proofs.ListSteps.{inhabited_lives, items_start, items_stuck, item_stuck, item_spelt, item_unended, bracket_leads, enclosed_leads, last_spelt, last_stuck, comma_stuck, position_inhabited, ended_begins}
 use Rattle.at_wkt.proofs.PositionSteps.{begin_no_blank}
-use Rattle.at_wkt.proofs.BodySteps.{Choice, is_open, choice_open, choice_empty, choice_broken, choice_begins, parted_choice, point_choice, Bracketed, ring_begins, ring_inhabited, member_when, member_begins, bare_spelt, bare_stuck}
+use Rattle.at_wkt.proofs.BodySteps.{Choice, is_open, choice_open, choice_empty, choice_broken, choice_begins, parted_choice, point_choice, Bracketed, ring_begins, ring_inhabited, ring_no_blank, member_when, member_begins, member_inhabited, bare_spelt, bare_stuck}
 use Rattle.at_wkt.proofs.PathAnswers.{so_far_end}
 use Rattle.at_text.proofs.Exits.{answers_by}
 
@@ -62,22 +62,30 @@ bracketed_stands P faults added base w i c old new inside here r h =
 
 -- ---- items
 
-module _ {X Z : Type 0} (P : ℕ → X → ℕ → List ℕ → Type 0) (faults : X → List Fault) (added : X → List Z) (base : ℕ) (w : List ℕ) (i a : ℕ) (c : Dimension) (skips : SkipsBlanks w i a) (begins : Begins no_blank P) where
-  pub ended_item : (old new : List Z) (read : Read) → PartStands P faults (Grows added old new) base w a c read → (r : Result ItemRead Halt)
-      → MatchResult r (λ item. (item.fault ≡ read.fault) × (item.behind.dimension ≡ read.behind.dimension) × DelimiterStands w read.behind.at (record { is_last = item.is_last; end = item.behind.at })) (λ halt. IfStopped halt (DelimiterBreaks w read.behind.at))
-      → MatchResult r (ItemStands P faults (Grows added old new) base w i c) (λ halt. IfStopped halt (Stuck (Item P) base w i c))
-  ended_item old new read h r q = answers_by r _ (ItemStands P faults (Grows added old new) base w i c) _ (Stuck (Item P) base w i c) q
-      (λ item (ef, ed, d).
-      let ends : Spelt Delimiter base w read.behind.at read.behind.dimension (d.at + 1) read.behind.dimension item.is_last = delimiter_spelt base w read.behind.at d.at d.blanks item.is_last d.byte d.inside read.behind.dimension h.spelt.some in
-      let whole : Spelt (Item P) base w i c (d.at + 1) read.behind.dimension (h.value, item.is_last) = item_spelt P base w i a c skips begins read.behind.at read.behind.dimension h.value h.spelt (d.at + 1) item.is_last ends in
-      record {
-        value = h.value;
-        spelt = subst (λ z. Spelt (Item P) base w i c item.behind.at z (h.value, item.is_last)) (sym ed) (subst (λ z. Spelt (Item P) base w i c z read.behind.dimension (h.value, item.is_last)) (sym d.end_is) whole);
-        fault = ef ∙ h.fault;
-        added = h.added;
-        longer = omega (arith, skips.order, h.spelt.order, d.blanks.order, d.end_is);
-      })
-      (λ n d. item_unended P base w i a c skips begins read.behind.at read.behind.dimension h.value h.spelt n (delimiter_stuck base w read.behind.at n d.blanks read.behind.dimension h.spelt.some d.byte))
+module _ {X : Type 0} (P : ℕ → X → ℕ → List ℕ → Type 0) (base : ℕ) (w : List ℕ) (i : ℕ) (c : Dimension) (lives : Inhabited P) where
+  -- where no item goes on, no items do
+  items_broken : (n : ℕ) → Stuck (Item P) base w i c n → Stuck (Items P) base w i c n
+  items_broken n h = items_stuck P base w i c (inhabited_lives P lives) i n c [] (items_start P base w i c) h
+
+  module _ (a : ℕ) (skips : SkipsBlanks w i a) (begins : Begins no_blank P) where
+    pub item_broken : (n : ℕ) → Stuck P base w a c n → Stuck (Items P) base w i c n
+    item_broken n h = items_broken n (item_stuck P base w i a c skips begins n h)
+
+    pub ended_item : {Z : Type 0} (faults : X → List Fault) (added : X → List Z) (old new : List Z) (read : Read) → PartStands P faults (Grows added old new) base w a c read → (r : Result ItemRead Halt)
+        → MatchResult r (λ item. (item.fault ≡ read.fault) × (item.behind.dimension ≡ read.behind.dimension) × DelimiterStands w read.behind.at (record { is_last = item.is_last; end = item.behind.at })) (λ halt. IfStopped halt (DelimiterBreaks w read.behind.at))
+        → MatchResult r (ItemStands P faults (Grows added old new) base w i c) (λ halt. IfStopped halt (Stuck (Items P) base w i c))
+    ended_item faults added old new read h r q = answers_by r _ (ItemStands P faults (Grows added old new) base w i c) _ (Stuck (Items P) base w i c) q
+        (λ item (ef, ed, d).
+        let ends : Spelt Delimiter base w read.behind.at read.behind.dimension (d.at + 1) read.behind.dimension item.is_last = delimiter_spelt base w read.behind.at d.at d.blanks item.is_last d.byte d.inside read.behind.dimension h.spelt.some in
+        let whole : Spelt (Item P) base w i c (d.at + 1) read.behind.dimension (h.value, item.is_last) = item_spelt P base w i a c skips begins read.behind.at read.behind.dimension h.value h.spelt (d.at + 1) item.is_last ends in
+        record {
+          value = h.value;
+          spelt = subst (λ z. Spelt (Item P) base w i c item.behind.at z (h.value, item.is_last)) (sym ed) (subst (λ z. Spelt (Item P) base w i c z read.behind.dimension (h.value, item.is_last)) (sym d.end_is) whole);
+          fault = ef ∙ h.fault;
+          added = h.added;
+          longer = omega (arith, skips.order, h.spelt.order, d.blanks.order, d.end_is);
+        })
+        (λ n d. items_broken n (item_unended P base w i a c skips begins read.behind.at read.behind.dimension h.value h.spelt n (delimiter_stuck base w read.behind.at n d.blanks read.behind.dimension h.spelt.some d.byte)))
 
 -- all items of a loop
 pub items_stand : {X Z : Type 0} (P : ℕ → X → ℕ → List ℕ → Type 0) (faults : X → List Fault) (added : X → List Z) (old new : List Z) (base : ℕ) (w : List ℕ) (i : ℕ) (c : Dimension) (last : ItemRead) (read : Read)
@@ -121,27 +129,34 @@ added_stands rules w i c role read path old new h ep e = record {
 }
 
 -- no ring begins with this byte
-pub ring_missing : (base : ℕ) (w : List ℕ) (i a : ℕ) (c : Dimension) → SkipsBlanks w i a → HasCount c → is_open (next w a) ≡ false → (begins : Begins no_blank SpellsRing) → Stuck (Item SpellsRing) base w i c a
-ring_missing base w i a c skips (d, allowed) shut begins = item_stuck SpellsRing base w i a c skips begins a (stuck_first SpellsRing is_open base w a c ring_begins ring_inhabited d allowed skips.within shut)
+pub ring_missing : (base : ℕ) (w : List ℕ) (i a : ℕ) (c : Dimension) → SkipsBlanks w i a → HasCount c → is_open (next w a) ≡ false → Stuck (Items SpellsRing) base w i c a
+ring_missing base w i a c skips (d, allowed) shut = item_broken SpellsRing base w i c ring_inhabited a skips ring_no_blank a (stuck_first SpellsRing is_open base w a c ring_begins ring_inhabited d allowed skips.within shut)
 
--- a polygon of these rings
-pub area_stands : (rules : Rules) (w : List ℕ) (i : ℕ) (c : Dimension) (read : Read) (rings : List (List Pos)) (old new : List PolygonOf) (polygon : PolygonOf)
-    → PartStands (Items SpellsRing) (flat_map (faults_of_ring rules.digits rules.how)) (Grows (flat_map (added_path rules.digits rules.how)) [] rings) rules.base w i c read
-    → polygon ≡ record { rings = rings } → new ≡ old ++ (polygon ∷ [])
-    → PartStands (Items SpellsRing) (faults_of_area rules.digits rules.how) (Grows (polygons_of rules.digits rules.how) old new) rules.base w i c read
-area_stands rules w i c read rings old new polygon h ep e = record {
+-- the polygon of these rings, and none of no rings
+abbrev pub area_of : List (List Pos) → List PolygonOf
+area_of [] = []
+area_of (ring ∷ rings) = record { rings = ring ∷ rings } ∷ []
+
+pub area_some : (rings shown : List (List Pos)) (t : Bool) → shown ≡ rings → t ≡ (length rings == 0) → t ≡ false → record { rings = shown } ∷ [] ≡ area_of rings
+area_some [] shown t same e h = absurd (true≢false (sym e ∙ h))
+area_some (ring ∷ rings) shown t same e h = let P : List (List Pos) → List PolygonOf = λ z. record { rings = z } ∷ [] in ap P same
+
+pub area_stands : (rules : Rules) (w : List ℕ) (i : ℕ) (c : Dimension) (read : Read) (rings : List (List Pos)) (old new : List PolygonOf)
+    → PartStands SpellsArea (faults_of_area rules.digits rules.how) (Grows (flat_map (added_path rules.digits rules.how)) [] rings) rules.base w i c read → new ≡ old ++ area_of rings
+    → PartStands SpellsArea (faults_of_area rules.digits rules.how) (Grows (polygons_of rules.digits rules.how) old new) rules.base w i c read
+area_stands rules w i c read rings old new h e = record {
   value = h.value;
   spelt = h.spelt;
   fault = h.fault;
-  added = e ∙ ap (λ z. old ++ z) (ap (λ z. z ∷ []) (ep ∙ ap (λ z. record { rings = z }) h.added) ∙ (let (d, a) = h.spelt.some in one h.value d (rules.base + i) (between w i read.behind.at) (h.spelt.sound d a)));
+  added = e ∙ ap (λ z. old ++ z) (ap area_of (h.added ∙ paths h.value) ∙ one h.value);
 } where
   paths : (xs : List Positions) → flat_map (added_path rules.digits rules.how) xs ≡ map (path_of rules.digits rules.how) xs
   paths [] = refl
   paths (x ∷ xs) = ap (λ z. path_of rules.digits rules.how x ∷ z) (paths xs)
 
-  one : (xs : List Positions) (d at : ℕ) (v : List ℕ) → Items SpellsRing d xs at v → record { rings = flat_map (added_path rules.digits rules.how) xs } ∷ [] ≡ polygons_of rules.digits rules.how xs
-  one [] d at v h = absurd h
-  one (x ∷ xs) d at v h = ap (λ z. record { rings = z } ∷ []) (paths (x ∷ xs))
+  one : (xs : List Positions) → area_of (map (path_of rules.digits rules.how) xs) ≡ polygons_of rules.digits rules.how xs
+  one [] = refl
+  one (x ∷ xs) = refl
 
 -- ---- members of a MULTIPOINT
 
@@ -157,8 +172,8 @@ module _ (rules : Rules) (w : List ℕ) (i a : ℕ) (c : Dimension) (skips : Ski
     added = h.added;
   }
 
-  pub member_stuck : (n : ℕ) → opens (next w a) ≡ true → Stuck SpellsPoint rules.base w a c n → Stuck (Item SpellsPointMember) rules.base w i c n
-  member_stuck n here h = item_stuck SpellsPointMember rules.base w i a c skips member_begins n
+  pub member_stuck : (n : ℕ) → opens (next w a) ≡ true → Stuck SpellsPoint rules.base w a c n → Stuck (Items SpellsPointMember) rules.base w i c n
+  member_stuck n here h = item_broken SpellsPointMember rules.base w i c member_inhabited a skips member_begins n
       ((when_leads SpellsPointMember SpellsPoint (λ at p. p) opens opens rules.base w a c member_when (choice_begins SpellsPoint EnclosedPosition (λ p. Some p) None point_choice) skips.within here).stuck n h)
 
   -- a bare position reaches beyond the blanks
@@ -187,8 +202,8 @@ module _ (rules : Rules) (w : List ℕ) (i a : ℕ) (c : Dimension) (skips : Ski
 
   pub bare_stands : (old new : List Pos) (r : Result ItemRead Halt) → HasCount c → opens (next w a) ≡ false
       → MatchResult r (ItemStands SpellsPosition (position_faults rules.digits rules.how) (Grows (added_position rules.digits rules.how) old new) rules.base w i c) (λ halt. IfStopped halt (Stuck (Item SpellsPosition) rules.base w i c))
-      → MatchResult r (ItemStands SpellsPointMember (point_faults rules.digits rules.how) (Grows (added_point rules.digits rules.how) old new) rules.base w i c) (λ halt. IfStopped halt (Stuck (Item SpellsPointMember) rules.base w i c))
-  bare_stands old new r some bare h = answers_by r _ (ItemStands SpellsPointMember (point_faults rules.digits rules.how) (Grows (added_point rules.digits rules.how) old new) rules.base w i c) _ (Stuck (Item SpellsPointMember) rules.base w i c) h
+      → MatchResult r (ItemStands SpellsPointMember (point_faults rules.digits rules.how) (Grows (added_point rules.digits rules.how) old new) rules.base w i c) (λ halt. IfStopped halt (Stuck (Items SpellsPointMember) rules.base w i c))
+  bare_stands old new r some bare h = answers_by r _ (ItemStands SpellsPointMember (point_faults rules.digits rules.how) (Grows (added_point rules.digits rules.how) old new) rules.base w i c) _ (Stuck (Items SpellsPointMember) rules.base w i c) h
       (λ item q. record {
         value = Some q.value;
         spelt = bare_spelt rules.base w i a c skips bare item.behind.at item.behind.dimension q.value item.is_last (bare_longer item.behind.at item.behind.dimension q.value item.is_last q.spelt) q.spelt;
@@ -196,7 +211,7 @@ module _ (rules : Rules) (w : List ℕ) (i a : ℕ) (c : Dimension) (skips : Ski
         added = q.added;
         longer = q.longer;
       })
-      (λ n q. bare_stuck rules.base w i a c skips bare n (bare_low n some q) q)
+      (λ n q. items_broken SpellsPointMember rules.base w i c member_inhabited n (bare_stuck rules.base w i a c skips bare n (bare_low n some q) q))
 
 pub position_item : (rules : Rules) (w : List ℕ) (i : ℕ) (c : Dimension) (read : PositionRead) (old new : List Pos) → PositionStands rules w i c read → new ≡ old ++ (read.pos ∷ [])
     → ItemStands SpellsPosition (position_faults rules.digits rules.how) (Grows (added_position rules.digits rules.how) old new) rules.base w i c (record { fault = read.fault; is_last = read.is_last; behind = read.behind })

@@ -4,13 +4,13 @@ use Rattle.std.proofs.Common.{ap₂, ◌≡◌, ℕ, ◌+◌, ◌<◌, ◌≤◌
 use Rattle.std.specs.Ordering.{int_eq}
 use Rattle.std.proofs.lemmas.List.{map-append, length-map}
 use Rattle.std.proofs.lemmas.Grind.{flat_map-append}
-use Rattle.at_wkt.proofs.Names.{Fault, first_fault, first_of, comes_first, Pos, Dimension, Rules, PositionRead, PathRead, Read, Role, Line, Ring, ItemRead, Position, Positions, pos_of, position_faults, SpellsPosition, SpellsRing, PartStands, next, Spelt, Stuck, Item, Items, ItemsRead, HasCount, PositionStands, PositionsSoFar, ends_same, ItemsSoFar, ItemStands, Grows, PathStands, fault_of_path, faults_of_path}
+use Rattle.at_wkt.proofs.Names.{Fault, first_fault, first_of, comes_first, Pos, Dimension, Rules, PositionRead, PathRead, Read, Role, Line, Ring, ItemRead, Position, Positions, pos_of, position_faults, SpellsPosition, SpellsRing, PartStands, next, Spelt, Stuck, Item, Items, ItemsRead, HasCount, PositionStands, PositionsSoFar, ends_same, ItemsSoFar, ItemStands, Grows, none_kept, PathStands, fault_of_path, faults_of_path}
 use Rattle.at_geom.specs.Closed.{last_of}
 use Rattle.at_wkt.specs.declared.line.sources.Place.{Place}
 use Rattle.at_wkt.specs.declared.line.paths.ListRead.{ListRead}
 use Rattle.at_wkt.specs.Positions.{items_faults, is_faultless, is_closed}
 use Rattle.at_wkt.specs.Readers.{PositionsStand}
-use Rattle.at_wkt.proofs.ListSteps.{ItemLives, items_start, items_more, items_stuck, items_end, position_lives, ring_leads}
+use Rattle.at_wkt.proofs.ListSteps.{items_start, items_more, items_stuck, items_end, position_lives, ring_leads}
 use Rattle.at_wkt.proofs.FaultOrder.{first_of-append}
 
 last_of-append : (p : Position) (ps : List Position) (q : Position) → last_of p (ps ++ (q ∷ [])) ≡ q
@@ -104,15 +104,15 @@ module _ (rules : Rules) (w : List ℕ) (i : ℕ) (c : Dimension) where
 -- ---- items of any kind
 
 module _ {X Y : Type 0} (P : ℕ → X → ℕ → List ℕ → Type 0) (faults : X → List Fault) (added : X → List Y) (old : List Y) (base : ℕ) (w : List ℕ) (i : ℕ) (c : Dimension) where
-  pub so_far_start : (first : ItemRead) → first.fault ≡ None → first.is_last ≡ false → first.behind.at ≡ i → first.behind.dimension ≡ c → i ≤ length w → HasCount c → ItemsSoFar P faults added old old base w i c first
-  so_far_start first ef el ee ed inside some = record {
+  pub so_far_start : (first : ItemRead) → first ≡ record { fault = None; is_last = false; behind = record { at = i; dimension = c } } → i ≤ length w → HasCount c → ItemsSoFar P faults added old old base w i c first
+  so_far_start first is inside some = subst (ItemsSoFar P faults added old old base w i c) (sym is) (record {
     values = [];
-    reads = subst (λ z. ItemsRead P base w i c first.behind.at first.behind.dimension z []) (sym el) (subst (λ z. ItemsRead P base w i c first.behind.at z false []) (sym ed) (subst (λ z. ItemsRead P base w i c z c false []) (sym ee) (items_start P base w i c)));
-    some = subst HasCount (sym ed) some;
-    within = omega (arith, ee, inside);
-    fault = ef;
+    reads = items_start P base w i c;
+    some = some;
+    within = inside;
+    fault = refl;
     grown = sym (append-nil old);
-  }
+  })
 
   pub so_far_more : (last item new : ItemRead) (list list' : List Y) → ItemsSoFar P faults added old list base w i c last → last.is_last ≡ false → ItemStands P faults (Grows added list list') base w last.behind.at last.behind.dimension item
       → new ≡ record { fault = first_fault last.fault item.fault; is_last = item.is_last; behind = item.behind } → ItemsSoFar P faults added old list' base w i c new
@@ -127,8 +127,8 @@ module _ {X Y : Type 0} (P : ℕ → X → ℕ → List ℕ → Type 0) (faults 
         ∙ ap (λ z. old ++ z) (ap (λ z. flat_map added h.values ++ z) (sym (append-nil (added q.value))) ∙ sym (flat_map-append added h.values (q.value ∷ [])))));
   })
 
-  pub so_far_stuck : ItemLives P → (last : ItemRead) (list : List Y) (n : ℕ) → ItemsSoFar P faults added old list base w i c last → last.is_last ≡ false → Stuck (Item P) base w last.behind.at last.behind.dimension n → Stuck (Items P) base w i c n
-  so_far_stuck lives last list n h more q = items_stuck P base w i c lives last.behind.at n last.behind.dimension h.values (subst (λ z. ItemsRead P base w i c last.behind.at last.behind.dimension z h.values) more h.reads) q
+  pub so_far_stuck : (last : ItemRead) (list : List Y) (n : ℕ) → ItemsSoFar P faults added old list base w i c last → last.is_last ≡ false → Stuck (Items P) base w last.behind.at last.behind.dimension n → Stuck (Items P) base w i c n
+  so_far_stuck last list n h more q = (subst (λ z. ItemsRead P base w i c last.behind.at last.behind.dimension z h.values) more h.reads).stuck n q
 
   pub so_far_end : (last : ItemRead) (list : List Y) → (h : ItemsSoFar P faults added old list base w i c last) → last.is_last ≡ true → Spelt (Items P) base w i c last.behind.at last.behind.dimension h.values
   so_far_end last list h ended = items_end P base w i c last.behind.at last.behind.dimension h.values (subst (λ z. ItemsRead P base w i c last.behind.at last.behind.dimension z h.values) ended h.reads) h.within h.some
@@ -172,7 +172,7 @@ module _ (rules : Rules) (w : List ℕ) (i : ℕ) (c : Dimension) (inside : i < 
   -- the same, where the path isn't kept
   pub path_passed : (role : Role) (list : List Pos) (read : ListRead) (path : Read) → PositionsStand rules w (i + 1) c list read → (own : Option Fault)
       → own ≡ fault_of_path role (length list) read.closes (rules.base + i) → path.fault ≡ first_fault own read.fault → path.behind.at ≡ read.behind.at → path.behind.dimension ≡ read.behind.dimension
-      → PartStands SpellsRing (faults_of_path rules.digits rules.how role) (λ _. Unit {0}) rules.base w i c path
+      → PartStands SpellsRing (faults_of_path rules.digits rules.how role) (Grows none_kept [] []) rules.base w i c path
   path_passed role list read path h own eo ef ee ed =
       let (spelt, fault) = path_is role list read path.behind h path.fault own eo ef ee ed in
-      record { value = record { at = rules.base + i; items = h.positions }; spelt = spelt; fault = fault; added = tt }
+      record { value = record { at = rules.base + i; items = h.positions }; spelt = spelt; fault = fault; added = refl }

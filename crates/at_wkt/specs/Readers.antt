@@ -1,5 +1,5 @@
 -- What the functions that read the parts of a text promise each other. Only contracts of private functions cite this.
-use Rattle.std.specs.Prelude.{Result, Ok, Err, Some, None, is_none, if◌then◌else◌, zero, suc, map, flat_map}
+use Rattle.std.specs.Prelude.{Result, MatchResult, IfSome, Ok, Err, Some, None, is_none, if◌then◌else◌, zero, suc, map, flat_map}
 use Rattle.std.specs.Prelude.{option_to_list, Option, ◌≡◌, ◌≢◌, ℕ, ◌+◌, ◌-◌, not, slice_index, codes, ◌⊎◌, ◌||◌, ◌<◌}
 use Rattle.std.specs.Prelude.{◌≤◌, ◌&&◌, ◌==◌, nat_le, nat_lt, Bool, true, false, IsTrue, List, [], ◌∷◌, ◌++◌, length}
 use Rattle.std.specs.Prelude.{take, drop, slice_index_or}
@@ -22,7 +22,9 @@ use Rattle.at_wkt.specs.declared.answers.LineFault.TheVariants.{Found, Memory as
 use Rattle.at_wkt.specs.Answers.{SpellsLine}
 use Rattle.at_text.specs.declared.halts.Halt.{Halt}
 use Rattle.at_text.specs.declared.halts.Halt.TheVariants.{At, Memory}
+use Rattle.at_text.specs.Halts.{IfStopped}
 use Rattle.at_wkt.specs.declared.line.sources.Rules.{Rules}
+use Rattle.at_wkt.specs.declared.line.sources.Place.{Place}
 use Rattle.at_wkt.specs.declared.line.numbers.Coordinate.{Coordinate}
 use Rattle.at_wkt.specs.declared.line.positions.DelimiterRead.{DelimiterRead}
 use Rattle.at_wkt.specs.declared.line.positions.PositionRead.{PositionRead}
@@ -341,15 +343,6 @@ pub record ItemStands {X : Type 0} (P : ℕ → X → ℕ → List ℕ → Type 
   pub added : IsAdded value
   pub longer : i < read.behind.at
 
--- the same without a fault; what it adds isn't kept
-abbrev pub IsPassedPart : {X : Type 0} → (ℕ → X → ℕ → List ℕ → Type 0) → (X → List Fault) → ℕ → List ℕ → ℕ → Dimension
-    → Read → Type 0
-IsPassedPart P faults base w i c read = (read.fault ≡ None) × PartStands P faults (λ _. Unit {0}) base w i c read
-
-abbrev pub IsPassedItem : {X : Type 0} → (ℕ → X → ℕ → List ℕ → Type 0) → (X → List Fault) → ℕ → List ℕ → ℕ → Dimension
-    → ItemRead → Type 0
-IsPassedItem P faults base w i c read = (read.fault ≡ None) × ItemStands P faults (λ _. Unit {0}) base w i c read
-
 module _ (digits : ℕ) (how : Coords) where
   -- what a point, or none for EMPTY, adds, and its faults
   abbrev pub added_point : Option Position → List Pos
@@ -376,6 +369,36 @@ module _ (digits : ℕ) (how : Coords) where
 -- the list grew by these
 abbrev pub Grows : {X Y : Type 0} → (X → List Y) → List Y → List Y → X → Type 0
 Grows added old new x = new ≡ old ++ added x
+
+-- a part stands and was added to a list, or else no part goes on where reading it stopped
+abbrev pub ReadsPart : {X Y : Type 0} → (ℕ → X → ℕ → List ℕ → Type 0) → (ℕ → Coords → X → List Fault)
+    → (ℕ → Coords → X → List Y) → Rules → List ℕ → Place → List Y → List Y → Result Read Halt → Type 0
+ReadsPart P faults added rules w from old new r = MatchResult r
+    (PartStands P (faults rules.digits rules.how) (Grows (added rules.digits rules.how) old new) rules.base w from.at
+    from.dimension)
+    (λ halt. IfStopped halt (Stuck P rules.base w from.at from.dimension))
+
+-- an item stands and was added to a list, or else no items go on where reading it stopped
+abbrev pub ReadsItem : {X Y : Type 0} → (ℕ → X → ℕ → List ℕ → Type 0) → (ℕ → Coords → X → List Fault)
+    → (ℕ → Coords → X → List Y) → Rules → List ℕ → Place → List Y → List Y → Result ItemRead Halt → Type 0
+ReadsItem P faults added rules w from old new r = MatchResult r
+    (ItemStands P (faults rules.digits rules.how) (Grows (added rules.digits rules.how) old new) rules.base w from.at
+    from.dimension)
+    (λ halt. IfStopped halt (Stuck (Items P) rules.base w from.at from.dimension))
+
+-- a part or an item without a fault stands, of which nothing is kept
+abbrev pub none_kept : {X : Type 0} → X → List Pos
+none_kept x = []
+
+abbrev pub PassesPart : {X : Type 0} → (ℕ → X → ℕ → List ℕ → Type 0) → (ℕ → Coords → X → List Fault) → Rules → List ℕ
+    → Place → Option Read → Type 0
+PassesPart P faults rules w from r = IfSome r (λ read. (read.fault ≡ None)
+    × PartStands P (faults rules.digits rules.how) (Grows none_kept [] []) rules.base w from.at from.dimension read)
+
+abbrev pub PassesItem : {X : Type 0} → (ℕ → X → ℕ → List ℕ → Type 0) → (ℕ → Coords → X → List Fault) → Rules → List ℕ
+    → Place → Option ItemRead → Type 0
+PassesItem P faults rules w from r = IfSome r (λ item. (item.fault ≡ None)
+    × ItemStands P (faults rules.digits rules.how) (Grows none_kept [] []) rules.base w from.at from.dimension item)
 
 -- the first positions read from a place on: the items so far, the last of which was read as `last`
 pub record PositionsSoFar (rules : Rules) (w : List ℕ) (i : ℕ) (c : Dimension) (first last : PositionRead) (path

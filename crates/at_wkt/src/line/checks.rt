@@ -1,16 +1,14 @@
 //! Plain geometries without a fault: they are passed over, and what they cover isn't kept. For all others the answer is
 //! None.
 
-ghost use Rattle.std.specs.Prelude.{◌≡◌, ◌+◌, ◌<◌, ◌≤◌, IsTrue, IfSome, None, length, take, flat_map};
+ghost use Rattle.std.specs.Prelude.{◌≡◌, ◌+◌, ◌<◌, ◌≤◌, IsTrue, IfSome, None, length, take};
 ghost use Rattle.at_geom.specs.declared.shapes.Shape.{Shape};
-ghost use Rattle.at_wkt.specs.declared.line.paths.Role.TheVariants as Role;
 ghost use Rattle.at_wkt.specs.Answers.{HasLineShape};
 ghost use Rattle.at_wkt.specs.Geometry.{SpellsArea, SpellsList, SpellsPoint, SpellsRing};
 ghost use Rattle.at_wkt.specs.Meaning.{faults_of_area};
 ghost use Rattle.at_wkt.specs.Positions.{faults_of_ring};
 ghost use Rattle.at_wkt.specs.Readers.{next, ends_same, HasCount, IsEndedList, IsPassedGeometry, IsPassedBody};
-ghost use Rattle.at_wkt.specs.Readers.{IsPassedItem, IsPassedList, IsPassedRow, IsPassedPart, Items, faults_of_path};
-ghost use Rattle.at_wkt.specs.Readers.{line_faults, point_faults};
+ghost use Rattle.at_wkt.specs.Readers.{IsPassedList, IsPassedRow, PassesItem, PassesPart, line_faults, point_faults};
 
 use crate::line::bytes::{skip_blanks, stands};
 use crate::line::kinds::{Head, Kind, read_head};
@@ -103,91 +101,12 @@ fn pass_row(source: &Source, from: Place) -> Option<RowPassed>
     Some(RowPassed { last, count })
 }
 
-/// Passes over a line from its opening bracket, which stands at the place, to its closing one.
-fn pass_line(source: &Source, from: Place) -> Option<Read>
-    requires inside { from.at < length source.now.text.now }
-    requires opener { next source.now.text.now from.at ≡ 0x28 }
-    requires count { HasCount from.dimension }
-    ensures { IfSome result (IsPassedPart SpellsRing (faults_of_path source.now.rules.digits source.now.rules.how
-        Role.Line) source.now.rules.base source.now.text.now from.at from.dimension) }
-{
-    let inside = Place {
-        at: from.at + 1,
-        ..from
-    };
-    let row = pass_row(source, inside)?;
-    match line_fault(row.count, source.rules.base + from.at as u32) {
-        None => Some(Read {
-            fault: None,
-            behind: row.last.behind,
-        }),
-        Some(_) => None,
-    }
-}
-
-/// Passes over a ring from its opening bracket, which stands at the place, to its closing one.
-fn pass_closed(source: &Source, from: Place) -> Option<Read>
-    requires inside { from.at < length source.now.text.now }
-    requires opener { next source.now.text.now from.at ≡ 0x28 }
-    requires count { HasCount from.dimension }
-    ensures { IfSome result (IsPassedPart SpellsRing (faults_of_path source.now.rules.digits source.now.rules.how
-        Role.Ring) source.now.rules.base source.now.text.now from.at from.dimension) }
-{
-    let inside = Place {
-        at: from.at + 1,
-        ..from
-    };
-    let list = pass_positions(source, inside)?;
-    match ring_fault(list.count, list.closes, source.rules.base + from.at as u32) {
-        None => Some(Read {
-            fault: None,
-            behind: list.behind,
-        }),
-        Some(_) => None,
-    }
-}
-
-/// Passes over a ring and its delimiter.
-fn pass_ring(source: &Source, from: Place) -> Option<ItemRead>
-    requires inside { from.at ≤ length source.now.text.now }
-    requires count { HasCount from.dimension }
-    ensures { IfSome result (IsPassedItem SpellsRing (faults_of_ring source.now.rules.digits source.now.rules.how)
-        source.now.rules.base source.now.text.now from.at from.dimension) }
-{
-    let start = skip_blanks(source.text, from.at);
-    if !stands(source.text, start, b'(') {
-        return None;
-    }
-    let ring = pass_closed(source, Place { at: start, ..from })?;
-    match end_item(source.text, ring) {
-        Ok(item) => Some(item),
-        Err(_) => None,
-    }
-}
-
-/// Passes over the rings of a polygon behind its opening bracket.
-fn pass_rings(source: &Source, from: Place) -> Option<Read>
-    requires inside { from.at ≤ length source.now.text.now }
-    requires count { HasCount from.dimension }
-    ensures { IfSome result (IsPassedPart (Items SpellsRing)
-        (flat_map (faults_of_ring source.now.rules.digits source.now.rules.how)) source.now.rules.base
-        source.now.text.now from.at from.dimension) }
-{
-    let mut last = first_item(from);
-    'rings: while !last.is_last {
-        let ring = pass_ring(source, last.behind)?;
-        last = next_item(last, ring);
-    }
-    Some(items_read(last))
-}
-
 /// Passes over a position in brackets, the opening one of which stands at the place.
 fn pass_point(source: &Source, from: Place) -> Option<Read>
     requires inside { from.at < length source.now.text.now }
     requires opener { next source.now.text.now from.at ≡ 0x28 }
     requires count { HasCount from.dimension }
-    ensures { IfSome result (IsPassedPart SpellsPoint (point_faults source.now.rules.digits source.now.rules.how)
-        source.now.rules.base source.now.text.now from.at from.dimension) }
+    ensures { PassesPart SpellsPoint point_faults source.now.rules source.now.text.now from result }
 {
     let inside = Place {
         at: from.at + 1,
@@ -209,11 +128,58 @@ fn pass_line_string(source: &Source, from: Place) -> Option<Read>
     requires inside { from.at < length source.now.text.now }
     requires opener { next source.now.text.now from.at ≡ 0x28 }
     requires count { HasCount from.dimension }
-    ensures { IfSome result (IsPassedPart SpellsList (line_faults source.now.rules.digits source.now.rules.how)
-        source.now.rules.base source.now.text.now from.at from.dimension) }
+    ensures { PassesPart SpellsList line_faults source.now.rules source.now.text.now from result }
 {
-    let line = pass_line(source, from)?;
-    Some(line)
+    let inside = Place {
+        at: from.at + 1,
+        ..from
+    };
+    let row = pass_row(source, inside)?;
+    match line_fault(row.count, source.rules.base + from.at as u32) {
+        None => Some(Read {
+            fault: None,
+            behind: row.last.behind,
+        }),
+        Some(_) => None,
+    }
+}
+
+/// Passes over a ring from its opening bracket, which stands at the place, to its closing one.
+fn pass_closed(source: &Source, from: Place) -> Option<Read>
+    requires inside { from.at < length source.now.text.now }
+    requires opener { next source.now.text.now from.at ≡ 0x28 }
+    requires count { HasCount from.dimension }
+    ensures { PassesPart SpellsRing faults_of_ring source.now.rules source.now.text.now from result }
+{
+    let inside = Place {
+        at: from.at + 1,
+        ..from
+    };
+    let list = pass_positions(source, inside)?;
+    match ring_fault(list.count, list.closes, source.rules.base + from.at as u32) {
+        None => Some(Read {
+            fault: None,
+            behind: list.behind,
+        }),
+        Some(_) => None,
+    }
+}
+
+/// Passes over a ring and its delimiter.
+fn pass_ring(source: &Source, from: Place) -> Option<ItemRead>
+    requires inside { from.at ≤ length source.now.text.now }
+    requires count { HasCount from.dimension }
+    ensures { PassesItem SpellsRing faults_of_ring source.now.rules source.now.text.now from result }
+{
+    let start = skip_blanks(source.text, from.at);
+    if !stands(source.text, start, b'(') {
+        return None;
+    }
+    let ring = pass_closed(source, Place { at: start, ..from })?;
+    match end_item(source.text, ring) {
+        Ok(item) => Some(item),
+        Err(_) => None,
+    }
 }
 
 /// Passes over the rings of a polygon in brackets, the opening one of which stands at the place.
@@ -221,15 +187,17 @@ fn pass_polygon(source: &Source, from: Place) -> Option<Read>
     requires inside { from.at < length source.now.text.now }
     requires opener { next source.now.text.now from.at ≡ 0x28 }
     requires count { HasCount from.dimension }
-    ensures { IfSome result (IsPassedPart SpellsArea (faults_of_area source.now.rules.digits source.now.rules.how)
-        source.now.rules.base source.now.text.now from.at from.dimension) }
+    ensures { PassesPart SpellsArea faults_of_area source.now.rules source.now.text.now from result }
 {
-    let inside = Place {
+    let mut last = first_item(Place {
         at: from.at + 1,
         ..from
-    };
-    let rings = pass_rings(source, inside)?;
-    Some(rings)
+    });
+    'rings: while !last.is_last {
+        let ring = pass_ring(source, last.behind)?;
+        last = next_item(last, ring);
+    }
+    Some(items_read(last))
 }
 
 /// Passes over what stands behind the head of a point, a line or a polygon.
@@ -243,18 +211,9 @@ fn pass_body(source: &Source, head: Head) -> Option<Read>
         return None;
     }
     match head.kind {
-        Kind::Point => {
-            let body = pass_point(source, head.behind)?;
-            Some(body)
-        }
-        Kind::LineString => {
-            let body = pass_line_string(source, head.behind)?;
-            Some(body)
-        }
-        Kind::Polygon => {
-            let body = pass_polygon(source, head.behind)?;
-            Some(body)
-        }
+        Kind::Point => pass_point(source, head.behind),
+        Kind::LineString => pass_line_string(source, head.behind),
+        Kind::Polygon => pass_polygon(source, head.behind),
         _ => None,
     }
 }

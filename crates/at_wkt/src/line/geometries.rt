@@ -10,8 +10,8 @@ ghost use Rattle.at_wkt.specs.Readers.{WholeStands, HeadStands, no_meaning, open
 use crate::line::bytes::{skip_blanks, stands};
 use crate::line::kinds::{Head, Kind, read_head};
 use crate::line::parts::{
-    Read, read_line_string, read_line_strings, read_nothing, read_point, read_points, read_polygon,
-    read_polygons,
+    AreaList, LineList, PointList, Read, read_line_string, read_list, read_nothing, read_point,
+    read_polygon,
 };
 use crate::line::paths::{Maker, add_fault, clear_paths};
 use crate::line::positions::read_delimiter;
@@ -78,26 +78,19 @@ fn read_body(gathered: &mut Gathered, source: &Source, head: Head) -> Result<Rea
     let from = head.behind;
     match head.kind {
         Kind::Point => read_point(&mut gathered.points, source, from),
-        Kind::LineString => read_line_string(
-            &mut gathered.lines,
-            &mut gathered.maker,
-            source,
-            from,
-        ),
+        Kind::LineString => {
+            read_line_string(&mut gathered.lines, &mut gathered.maker, source, from)
+        }
         Kind::Polygon => read_polygon(&mut gathered.polygons, &mut gathered.maker, source, from),
-        Kind::MultiPoint => read_points(&mut gathered.points, source, from),
-        Kind::MultiLineString => read_line_strings(
-            &mut gathered.lines,
-            &mut gathered.maker,
-            source,
-            from,
-        ),
-        Kind::MultiPolygon => read_polygons(
-            &mut gathered.polygons,
-            &mut gathered.maker,
-            source,
-            from,
-        ),
+        Kind::MultiPoint => {
+            read_list::<PointList>(&mut gathered.points, &mut gathered.maker, source, from)
+        }
+        Kind::MultiLineString => {
+            read_list::<LineList>(&mut gathered.lines, &mut gathered.maker, source, from)
+        }
+        Kind::MultiPolygon => {
+            read_list::<AreaList>(&mut gathered.polygons, &mut gathered.maker, source, from)
+        }
         Kind::GeometryCollection => read_nothing(source.text, from),
     }
 }

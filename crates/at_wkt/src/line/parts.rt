@@ -1,15 +1,18 @@
 //! What stands behind the head of a geometry: a point, a line, a polygon, or several of them in brackets.
 
-ghost use Rattle.std.specs.Prelude.{◌≡◌, ◌+◌, false, ◌<◌, ◌≤◌, None, codes, flat_map, length, MatchResult};
+ghost use Rattle.std.specs.Prelude.{◌≡◌, ℕ, false, ◌<◌, ◌≤◌, List, Option, None, codes, flat_map, length, MatchResult};
+ghost use Rattle.at_fixed.specs.declared.rounding.Coords.{Coords};
 ghost use Rattle.at_text.specs.Faults.{first_fault as the_first};
-ghost use Rattle.at_wkt.specs.Positions.{position_faults, faults_of_ring};
+ghost use Rattle.at_text.specs.Halts.{IfStopped};
+ghost use Rattle.at_text.specs.declared.faults.Fault.{Fault};
+ghost use Rattle.at_wkt.specs.Positions.{Position, Positions, position_faults, faults_of_ring};
 ghost use Rattle.at_wkt.specs.Geometry.{SpellsPosition, SpellsRing, SpellsList, SpellsPoint, SpellsPointMember};
 ghost use Rattle.at_wkt.specs.Geometry.{SpellsArea, EmptyOrParted};
 ghost use Rattle.at_wkt.specs.Meaning.{faults_of_area, polygons_of};
-ghost use Rattle.at_wkt.specs.Readers.{next, Stuck, HasCount, Item, Items, EnclosedPosition, faults_of_path};
+ghost use Rattle.at_wkt.specs.Readers.{next, opens, HasCount, Item, ItemStands, Grows, Stuck, Items, EnclosedPosition};
+ghost use Rattle.at_wkt.specs.Readers.{faults_of_path};
 ghost use Rattle.at_wkt.specs.Readers.{added_point, point_faults, added_line, line_faults, added_path, added_position};
-ghost use Rattle.at_wkt.specs.Readers.{opens, Grows, PartStands, ItemStands, DelimiterStands, DelimiterBreaks};
-ghost use Rattle.at_text.specs.Halts.{IfStopped};
+ghost use Rattle.at_wkt.specs.Readers.{ReadsPart, ReadsItem, DelimiterStands, DelimiterBreaks};
 ghost use Rattle.at_wkt.specs.Readers.{KeywordStands, KeywordBreaks};
 
 use crate::line::bytes::{letter_stands, skip_blanks, stands};
@@ -36,6 +39,48 @@ pub struct ItemRead {
     pub behind: Place,
 }
 
+/// What stands in a list in brackets: how one member is read, and what is kept of it.
+pub trait Listed {
+    /// Of what a list is kept.
+    type Kept;
+
+    /// What a member is.
+    ghost Value: { Type 0 };
+
+    /// The bytes from an offset on spell a member.
+    ghost spells: { ℕ → Value → ℕ → List ℕ → Type 0 };
+
+    /// All faults of a member.
+    ghost faults: { ℕ → Coords → Value → List Fault };
+
+    /// What a member adds to what is kept.
+    ghost added: { ℕ → Coords → Value → List Self.Kept };
+
+    /// Reads a member and its delimiter.
+    fn read(
+        kept: &mut Vec<Self::Kept>,
+        maker: &mut Maker,
+        source: &Source,
+        from: Place,
+    ) -> Result<ItemRead, Halt>
+        requires inside { from.at ≤ length source.now.text.now }
+        requires count { HasCount from.dimension }
+        ensures { ReadsItem spells faults added source.now.rules source.now.text.now from kept.old.items kept.new.items
+            result };
+}
+
+/// Rings of a polygon.
+pub struct RingList;
+
+/// Points of a MULTIPOINT.
+pub struct PointList;
+
+/// Lines of a MULTILINESTRING.
+pub struct LineList;
+
+/// Polygons of a MULTIPOLYGON.
+pub struct AreaList;
+
 /// Reads the word EMPTY, which adds nothing.
 pub fn read_nothing(text: &[u8], from: Place) -> Result<Read, Halt>
     requires { from.at ≤ length text.now }
@@ -56,12 +101,8 @@ fn read_enclosed(points: &mut Vec<Pos>, source: &Source, from: Place) -> Result<
     requires inside { from.at < length source.now.text.now }
     requires opener { next source.now.text.now from.at ≡ 0x28 }
     requires count { HasCount from.dimension }
-    ensures { MatchResult result
-        (PartStands EnclosedPosition (position_faults source.now.rules.digits source.now.rules.how)
-        (Grows (added_position source.now.rules.digits source.now.rules.how) points.old.items points.new.items)
-        source.now.rules.base source.now.text.now from.at from.dimension)
-        (λ halt. IfStopped halt (Stuck EnclosedPosition source.now.rules.base source.now.text.now from.at
-        from.dimension)) }
+    ensures { ReadsPart EnclosedPosition position_faults added_position source.now.rules source.now.text.now from
+        points.old.items points.new.items result }
 {
     let inside = Place {
         at: from.at + 1,
@@ -82,10 +123,8 @@ fn read_enclosed(points: &mut Vec<Pos>, source: &Source, from: Place) -> Result<
 pub fn read_point(points: &mut Vec<Pos>, source: &Source, from: Place) -> Result<Read, Halt>
     requires inside { from.at ≤ length source.now.text.now }
     requires count { HasCount from.dimension }
-    ensures { MatchResult result (PartStands SpellsPoint (point_faults source.now.rules.digits source.now.rules.how)
-        (Grows (added_point source.now.rules.digits source.now.rules.how) points.old.items points.new.items)
-        source.now.rules.base source.now.text.now from.at from.dimension)
-        (λ halt. IfStopped halt (Stuck SpellsPoint source.now.rules.base source.now.text.now from.at from.dimension)) }
+    ensures { ReadsPart SpellsPoint point_faults added_point source.now.rules source.now.text.now from points.old.items
+        points.new.items result }
 {
     if stands(source.text, from.at, b'(') {
         read_enclosed(points, source, from)
@@ -105,11 +144,8 @@ fn read_added(
     requires inside { from.at < length source.now.text.now }
     requires opener { next source.now.text.now from.at ≡ 0x28 }
     requires count { HasCount from.dimension }
-    ensures { MatchResult result
-        (PartStands SpellsRing (faults_of_path source.now.rules.digits source.now.rules.how role)
-        (Grows (added_path source.now.rules.digits source.now.rules.how) paths.old.items paths.new.items)
-        source.now.rules.base source.now.text.now from.at from.dimension)
-        (λ halt. IfStopped halt (Stuck SpellsRing source.now.rules.base source.now.text.now from.at from.dimension)) }
+    ensures { ReadsPart SpellsRing (λ digits how. faults_of_path digits how role) added_path source.now.rules
+        source.now.text.now from paths.old.items paths.new.items result }
 {
     let read = read_path(maker, source, from, role)?;
     paths.push(Path::from_vec(read.path))?;
@@ -128,10 +164,8 @@ pub fn read_line_string(
 ) -> Result<Read, Halt>
     requires inside { from.at ≤ length source.now.text.now }
     requires count { HasCount from.dimension }
-    ensures { MatchResult result (PartStands SpellsList (line_faults source.now.rules.digits source.now.rules.how)
-        (Grows (added_line source.now.rules.digits source.now.rules.how) lines.old.items lines.new.items)
-        source.now.rules.base source.now.text.now from.at from.dimension)
-        (λ halt. IfStopped halt (Stuck SpellsList source.now.rules.base source.now.text.now from.at from.dimension)) }
+    ensures { ReadsPart SpellsList line_faults added_line source.now.rules source.now.text.now from lines.old.items
+        lines.new.items result }
 {
     if stands(source.text, from.at, b'(') {
         read_added(lines, maker, source, from, Role::Line)
@@ -156,35 +190,6 @@ pub fn end_item(text: &[u8], read: Read) -> Result<ItemRead, Halt>
             ..read.behind
         },
     })
-}
-
-/// Reads a ring and its delimiter.
-fn read_ring(
-    rings: &mut Vec<Path>,
-    maker: &mut Maker,
-    source: &Source,
-    from: Place,
-) -> Result<ItemRead, Halt>
-    requires inside { from.at ≤ length source.now.text.now }
-    requires count { HasCount from.dimension }
-    ensures { MatchResult result (ItemStands SpellsRing (faults_of_ring source.now.rules.digits source.now.rules.how)
-        (Grows (added_path source.now.rules.digits source.now.rules.how) rings.old.items rings.new.items)
-        source.now.rules.base source.now.text.now from.at from.dimension)
-        (λ halt. IfStopped halt (Stuck (Item SpellsRing) source.now.rules.base source.now.text.now from.at
-        from.dimension)) }
-{
-    let start = skip_blanks(source.text, from.at);
-    if !stands(source.text, start, b'(') {
-        return Err(Halt::At(start));
-    }
-    let ring = read_added(
-        rings,
-        maker,
-        source,
-        Place { at: start, ..from },
-        Role::Ring,
-    )?;
-    end_item(source.text, ring)
 }
 
 /// Where items begin: none was read yet.
@@ -223,52 +228,75 @@ pub fn items_read(last: ItemRead) -> Read
     }
 }
 
-/// Reads the rings of a polygon behind its opening bracket.
-fn read_rings(
-    rings: &mut Vec<Path>,
+/// Reads the members of a list behind its opening bracket.
+fn read_members<M: Listed>(
+    kept: &mut Vec<M::Kept>,
     maker: &mut Maker,
     source: &Source,
     from: Place,
 ) -> Result<Read, Halt>
     requires inside { from.at ≤ length source.now.text.now }
     requires count { HasCount from.dimension }
-    ensures { MatchResult result
-        (PartStands (Items SpellsRing) (flat_map (faults_of_ring source.now.rules.digits source.now.rules.how))
-        (Grows (flat_map (added_path source.now.rules.digits source.now.rules.how)) rings.old.items rings.new.items)
-        source.now.rules.base source.now.text.now from.at from.dimension)
-        (λ halt. IfStopped halt (Stuck (Items SpellsRing) source.now.rules.base source.now.text.now from.at
-        from.dimension)) }
+    ensures { ReadsPart (Items M.spells) (λ digits how. flat_map (M.faults digits how))
+        (λ digits how. flat_map (M.added digits how)) source.now.rules source.now.text.now from kept.old.items
+        kept.new.items result }
 {
     let mut last = first_item(from);
-    'rings: while !last.is_last {
-        let ring = read_ring(rings, maker, source, last.behind)?;
-        last = next_item(last, ring);
+    'members: while !last.is_last {
+        let member = M::read(kept, maker, source, last.behind)?;
+        last = next_item(last, member);
     }
     Ok(items_read(last))
 }
 
-/// Reads a polygon behind its opening bracket, and adds it.
-fn read_area(
-    polygons: &mut Vec<Polygon>,
+/// Reads EMPTY or a list of members in brackets.
+pub fn read_list<M: Listed>(
+    kept: &mut Vec<M::Kept>,
     maker: &mut Maker,
     source: &Source,
     from: Place,
 ) -> Result<Read, Halt>
     requires inside { from.at ≤ length source.now.text.now }
     requires count { HasCount from.dimension }
-    ensures { MatchResult result
-        (PartStands (Items SpellsRing) (faults_of_area source.now.rules.digits source.now.rules.how)
-        (Grows (polygons_of source.now.rules.digits source.now.rules.how) polygons.old.items polygons.new.items)
-        source.now.rules.base source.now.text.now from.at from.dimension)
-        (λ halt. IfStopped halt (Stuck (Items SpellsRing) source.now.rules.base source.now.text.now from.at
-        from.dimension)) }
+    ensures { ReadsPart (λ d xs. EmptyOrParted (M.spells d) xs) (λ digits how. flat_map (M.faults digits how))
+        (λ digits how. flat_map (M.added digits how)) source.now.rules source.now.text.now from kept.old.items
+        kept.new.items result }
 {
-    let mut rings = empty_rings(maker);
-    let read = read_rings(&mut rings, maker, source, from)?;
-    polygons.push(Polygon {
-        rings: Paths::from_vec(rings),
-    })?;
-    Ok(read)
+    if stands(source.text, from.at, b'(') {
+        let inside = Place {
+            at: from.at + 1,
+            ..from
+        };
+        read_members::<M>(kept, maker, source, inside)
+    } else {
+        read_nothing(source.text, from)
+    }
+}
+
+impl Listed for RingList {
+    type Kept = Path;
+
+    ghost Value = { Positions };
+
+    ghost spells = { SpellsRing };
+
+    ghost faults = { faults_of_ring };
+
+    ghost added = { added_path };
+
+    fn read(
+        rings: &mut Vec<Path>,
+        maker: &mut Maker,
+        source: &Source,
+        from: Place,
+    ) -> Result<ItemRead, Halt> {
+        let at = skip_blanks(source.text, from.at);
+        if !stands(source.text, at, b'(') {
+            return Err(Halt::At(at));
+        }
+        let ring = read_added(rings, maker, source, Place { at, ..from }, Role::Ring)?;
+        end_item(source.text, ring)
+    }
 }
 
 /// Reads EMPTY or a polygon.
@@ -280,20 +308,19 @@ pub fn read_polygon(
 ) -> Result<Read, Halt>
     requires inside { from.at ≤ length source.now.text.now }
     requires count { HasCount from.dimension }
-    ensures { MatchResult result (PartStands SpellsArea (faults_of_area source.now.rules.digits source.now.rules.how)
-        (Grows (polygons_of source.now.rules.digits source.now.rules.how) polygons.old.items polygons.new.items)
-        source.now.rules.base source.now.text.now from.at from.dimension)
-        (λ halt. IfStopped halt (Stuck SpellsArea source.now.rules.base source.now.text.now from.at from.dimension)) }
+    ensures { ReadsPart SpellsArea faults_of_area polygons_of source.now.rules source.now.text.now from
+        polygons.old.items polygons.new.items result }
 {
-    if stands(source.text, from.at, b'(') {
-        let inside = Place {
-            at: from.at + 1,
-            ..from
-        };
-        read_area(polygons, maker, source, inside)
+    let mut rings = empty_rings(maker);
+    let read = read_list::<RingList>(&mut rings, maker, source, from)?;
+    if rings.as_slice().is_empty() {
+        maker.rings = rings;
     } else {
-        read_nothing(source.text, from)
+        polygons.push(Polygon {
+            rings: Paths::from_vec(rings),
+        })?;
     }
+    Ok(read)
 }
 
 /// Reads a position without brackets and its delimiter.
@@ -323,205 +350,75 @@ fn opener_stands(text: &[u8], at: usize) -> bool
     stands(text, at, b'(') || letter_stands(text, at, b'E')
 }
 
-/// Reads a member of a MULTIPOINT and its delimiter.
-fn read_point_member(points: &mut Vec<Pos>, source: &Source, from: Place) -> Result<ItemRead, Halt>
-    requires inside { from.at ≤ length source.now.text.now }
-    requires count { HasCount from.dimension }
-    ensures { MatchResult result
-        (ItemStands SpellsPointMember (point_faults source.now.rules.digits source.now.rules.how)
-        (Grows (added_point source.now.rules.digits source.now.rules.how) points.old.items points.new.items)
-        source.now.rules.base source.now.text.now from.at from.dimension)
-        (λ halt. IfStopped halt (Stuck (Item SpellsPointMember) source.now.rules.base source.now.text.now from.at
-        from.dimension)) }
-{
-    let start = skip_blanks(source.text, from.at);
-    if opener_stands(source.text, start) {
-        let point = read_point(points, source, Place { at: start, ..from })?;
-        end_item(source.text, point)
-    } else {
-        read_bare(points, source, from)
+impl Listed for PointList {
+    type Kept = Pos;
+
+    ghost Value = { Option Position };
+
+    ghost spells = { SpellsPointMember };
+
+    ghost faults = { point_faults };
+
+    ghost added = { added_point };
+
+    fn read(
+        points: &mut Vec<Pos>,
+        _maker: &mut Maker,
+        source: &Source,
+        from: Place,
+    ) -> Result<ItemRead, Halt> {
+        let at = skip_blanks(source.text, from.at);
+        if opener_stands(source.text, at) {
+            let point = read_point(points, source, Place { at, ..from })?;
+            end_item(source.text, point)
+        } else {
+            read_bare(points, source, from)
+        }
     }
 }
 
-/// Reads the members of a MULTIPOINT behind its opening bracket.
-fn read_point_members(points: &mut Vec<Pos>, source: &Source, from: Place) -> Result<Read, Halt>
-    requires inside { from.at ≤ length source.now.text.now }
-    requires count { HasCount from.dimension }
-    ensures { MatchResult result
-        (PartStands (Items SpellsPointMember) (flat_map (point_faults source.now.rules.digits source.now.rules.how))
-        (Grows (flat_map (added_point source.now.rules.digits source.now.rules.how)) points.old.items points.new.items)
-        source.now.rules.base source.now.text.now from.at from.dimension)
-        (λ halt. IfStopped halt (Stuck (Items SpellsPointMember) source.now.rules.base source.now.text.now from.at
-        from.dimension)) }
-{
-    let mut last = first_item(from);
-    'members: while !last.is_last {
-        let member = read_point_member(points, source, last.behind)?;
-        last = next_item(last, member);
-    }
-    Ok(items_read(last))
-}
+impl Listed for LineList {
+    type Kept = Path;
 
-/// Reads EMPTY or the members of a MULTIPOINT.
-pub fn read_points(points: &mut Vec<Pos>, source: &Source, from: Place) -> Result<Read, Halt>
-    requires inside { from.at ≤ length source.now.text.now }
-    requires count { HasCount from.dimension }
-    ensures { MatchResult result (PartStands (λ d ps. EmptyOrParted (SpellsPointMember d) ps)
-        (flat_map (point_faults source.now.rules.digits source.now.rules.how))
-        (Grows (flat_map (added_point source.now.rules.digits source.now.rules.how)) points.old.items points.new.items)
-        source.now.rules.base source.now.text.now from.at from.dimension)
-        (λ halt. IfStopped halt (Stuck (λ d ps. EmptyOrParted (SpellsPointMember d) ps) source.now.rules.base
-        source.now.text.now from.at from.dimension)) }
-{
-    if stands(source.text, from.at, b'(') {
-        let inside = Place {
-            at: from.at + 1,
-            ..from
-        };
-        read_point_members(points, source, inside)
-    } else {
-        read_nothing(source.text, from)
+    ghost Value = { Option Positions };
+
+    ghost spells = { SpellsList };
+
+    ghost faults = { line_faults };
+
+    ghost added = { added_line };
+
+    fn read(
+        lines: &mut Vec<Path>,
+        maker: &mut Maker,
+        source: &Source,
+        from: Place,
+    ) -> Result<ItemRead, Halt> {
+        let at = skip_blanks(source.text, from.at);
+        let line = read_line_string(lines, maker, source, Place { at, ..from })?;
+        end_item(source.text, line)
     }
 }
 
-/// Reads a member of a MULTILINESTRING and its delimiter.
-fn read_line_member(
-    lines: &mut Vec<Path>,
-    maker: &mut Maker,
-    source: &Source,
-    from: Place,
-) -> Result<ItemRead, Halt>
-    requires inside { from.at ≤ length source.now.text.now }
-    requires count { HasCount from.dimension }
-    ensures { MatchResult result (ItemStands SpellsList (line_faults source.now.rules.digits source.now.rules.how)
-        (Grows (added_line source.now.rules.digits source.now.rules.how) lines.old.items lines.new.items)
-        source.now.rules.base source.now.text.now from.at from.dimension)
-        (λ halt. IfStopped halt (Stuck (Item SpellsList) source.now.rules.base source.now.text.now from.at
-        from.dimension)) }
-{
-    let start = skip_blanks(source.text, from.at);
-    let line = read_line_string(lines, maker, source, Place { at: start, ..from })?;
-    end_item(source.text, line)
-}
+impl Listed for AreaList {
+    type Kept = Polygon;
 
-/// Reads the members of a MULTILINESTRING behind its opening bracket.
-fn read_line_members(
-    lines: &mut Vec<Path>,
-    maker: &mut Maker,
-    source: &Source,
-    from: Place,
-) -> Result<Read, Halt>
-    requires inside { from.at ≤ length source.now.text.now }
-    requires count { HasCount from.dimension }
-    ensures { MatchResult result
-        (PartStands (Items SpellsList) (flat_map (line_faults source.now.rules.digits source.now.rules.how))
-        (Grows (flat_map (added_line source.now.rules.digits source.now.rules.how)) lines.old.items lines.new.items)
-        source.now.rules.base source.now.text.now from.at from.dimension)
-        (λ halt. IfStopped halt (Stuck (Items SpellsList) source.now.rules.base source.now.text.now from.at
-        from.dimension)) }
-{
-    let mut last = first_item(from);
-    'members: while !last.is_last {
-        let member = read_line_member(lines, maker, source, last.behind)?;
-        last = next_item(last, member);
-    }
-    Ok(items_read(last))
-}
+    ghost Value = { List Positions };
 
-/// Reads EMPTY or the members of a MULTILINESTRING.
-pub fn read_line_strings(
-    lines: &mut Vec<Path>,
-    maker: &mut Maker,
-    source: &Source,
-    from: Place,
-) -> Result<Read, Halt>
-    requires inside { from.at ≤ length source.now.text.now }
-    requires count { HasCount from.dimension }
-    ensures { MatchResult result (PartStands (λ d ls. EmptyOrParted (SpellsList d) ls)
-        (flat_map (line_faults source.now.rules.digits source.now.rules.how))
-        (Grows (flat_map (added_line source.now.rules.digits source.now.rules.how)) lines.old.items lines.new.items)
-        source.now.rules.base source.now.text.now from.at from.dimension)
-        (λ halt. IfStopped halt (Stuck (λ d ls. EmptyOrParted (SpellsList d) ls) source.now.rules.base
-        source.now.text.now from.at from.dimension)) }
-{
-    if stands(source.text, from.at, b'(') {
-        let inside = Place {
-            at: from.at + 1,
-            ..from
-        };
-        read_line_members(lines, maker, source, inside)
-    } else {
-        read_nothing(source.text, from)
-    }
-}
+    ghost spells = { SpellsArea };
 
-/// Reads a member of a MULTIPOLYGON and its delimiter.
-fn read_polygon_member(
-    polygons: &mut Vec<Polygon>,
-    maker: &mut Maker,
-    source: &Source,
-    from: Place,
-) -> Result<ItemRead, Halt>
-    requires inside { from.at ≤ length source.now.text.now }
-    requires count { HasCount from.dimension }
-    ensures { MatchResult result (ItemStands SpellsArea (faults_of_area source.now.rules.digits source.now.rules.how)
-        (Grows (polygons_of source.now.rules.digits source.now.rules.how) polygons.old.items polygons.new.items)
-        source.now.rules.base source.now.text.now from.at from.dimension)
-        (λ halt. IfStopped halt (Stuck (Item SpellsArea) source.now.rules.base source.now.text.now from.at
-        from.dimension)) }
-{
-    let start = skip_blanks(source.text, from.at);
-    let polygon = read_polygon(polygons, maker, source, Place { at: start, ..from })?;
-    end_item(source.text, polygon)
-}
+    ghost faults = { faults_of_area };
 
-/// Reads the members of a MULTIPOLYGON behind its opening bracket.
-fn read_polygon_members(
-    polygons: &mut Vec<Polygon>,
-    maker: &mut Maker,
-    source: &Source,
-    from: Place,
-) -> Result<Read, Halt>
-    requires inside { from.at ≤ length source.now.text.now }
-    requires count { HasCount from.dimension }
-    ensures { MatchResult result
-        (PartStands (Items SpellsArea) (flat_map (faults_of_area source.now.rules.digits source.now.rules.how))
-        (Grows (flat_map (polygons_of source.now.rules.digits source.now.rules.how)) polygons.old.items
-        polygons.new.items) source.now.rules.base source.now.text.now from.at from.dimension)
-        (λ halt. IfStopped halt (Stuck (Items SpellsArea) source.now.rules.base source.now.text.now from.at
-        from.dimension)) }
-{
-    let mut last = first_item(from);
-    'members: while !last.is_last {
-        let member = read_polygon_member(polygons, maker, source, last.behind)?;
-        last = next_item(last, member);
-    }
-    Ok(items_read(last))
-}
+    ghost added = { polygons_of };
 
-/// Reads EMPTY or the members of a MULTIPOLYGON.
-pub fn read_polygons(
-    polygons: &mut Vec<Polygon>,
-    maker: &mut Maker,
-    source: &Source,
-    from: Place,
-) -> Result<Read, Halt>
-    requires inside { from.at ≤ length source.now.text.now }
-    requires count { HasCount from.dimension }
-    ensures { MatchResult result (PartStands (λ d areas. EmptyOrParted (SpellsArea d) areas)
-        (flat_map (faults_of_area source.now.rules.digits source.now.rules.how))
-        (Grows (flat_map (polygons_of source.now.rules.digits source.now.rules.how)) polygons.old.items
-        polygons.new.items) source.now.rules.base source.now.text.now from.at from.dimension)
-        (λ halt. IfStopped halt (Stuck (λ d areas. EmptyOrParted (SpellsArea d) areas) source.now.rules.base
-        source.now.text.now from.at from.dimension)) }
-{
-    if stands(source.text, from.at, b'(') {
-        let inside = Place {
-            at: from.at + 1,
-            ..from
-        };
-        read_polygon_members(polygons, maker, source, inside)
-    } else {
-        read_nothing(source.text, from)
+    fn read(
+        polygons: &mut Vec<Polygon>,
+        maker: &mut Maker,
+        source: &Source,
+        from: Place,
+    ) -> Result<ItemRead, Halt> {
+        let at = skip_blanks(source.text, from.at);
+        let polygon = read_polygon(polygons, maker, source, Place { at, ..from })?;
+        end_item(source.text, polygon)
     }
 }

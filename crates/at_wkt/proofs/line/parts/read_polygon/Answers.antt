@@ -1,13 +1,11 @@
-use Rattle.std.proofs.Common.{[], refl, sym, ◌∙◌}
-use Rattle.at_wkt.proofs.Names.{polygons_of, faults_of_area, SpellsRing, EmptyOrParted}
-use Rattle.at_wkt.proofs.BodySteps.{parted_choice, Bracketed}
-use Rattle.at_wkt.proofs.PartAnswers.{nothing_stands, bracketed_stands, open_byte}
+use Rattle.std.proofs.Common.{length, flat_map, ◌==◌, ◌++◌, ◌∙◌, ap, subst}
+use Rattle.at_wkt.proofs.Names.{faults_of_area, SpellsArea, PartStands, Grows, added_path}
+use Rattle.at_wkt.proofs.PartAnswers.{area_some, area_stands}
 use Rattle.at_wkt.proofs.line.parts.read_polygon.Goals as goal
 
-pub returns-then-stands : goal.returns-then-stands
-returns-then-stands c =
-    let here = open_byte c.args.source.now.text.now c.args.from.at c.stands.result c.stands.ensures c.if-stands.true in
-    bracketed_stands SpellsRing (faults_of_area c.args.source.now.rules.digits c.args.source.now.rules.how) (polygons_of c.args.source.now.rules.digits c.args.source.now.rules.how) c.args.source.now.rules.base c.args.source.now.text.now c.args.from.at c.args.from.dimension _ _ here.0 here.1 c.read_area.result c.read_area.ensures
-
-pub returns-else-stands : goal.returns-else-stands
-returns-else-stands c = nothing_stands (λ d xs. EmptyOrParted (SpellsRing d) xs) (Bracketed SpellsRing) (λ xs. xs) [] (parted_choice SpellsRing) (faults_of_area c.args.source.now.rules.digits c.args.source.now.rules.how) (polygons_of c.args.source.now.rules.digits c.args.source.now.rules.how) c.args.source.now.rules.base c.args.source.now.text.now c.args.from.at c.args.from.dimension refl refl c.args.polygons.now.items (sym c.stands.ensures ∙ c.if-stands.false) c.requires.count c.read_nothing.result c.read_nothing.ensures
+pub returns-in_ok-push : goal.returns-in_ok-push
+returns-in_ok-push c =
+    let rules = c.args.source.now.rules in let old = c.args.polygons.now.items in let rings = c.read_list.new.kept.items in
+    area_stands rules c.args.source.now.text.now c.args.from.at c.args.from.dimension c.in_ok-read.read rings old c.push.new.self.items
+    (subst (λ z. PartStands SpellsArea (faults_of_area rules.digits rules.how) (Grows (flat_map (added_path rules.digits rules.how)) z rings) rules.base c.args.source.now.text.now c.args.from.at c.args.from.dimension c.in_ok-read.read) c.empty_rings-rings.ensures c.in_ok-read.ensures)
+    (c.in_ok-push.ensures.items ∙ ap (λ z. old ++ z) (area_some rings c.from_vec.result c.is_empty.result c.from_vec.ensures (c.is_empty.ensures ∙ ap (λ z. length z == 0) c.as_slice.ensures.value) c.if-is_empty.false))

@@ -1,9 +1,0 @@
-use Rattle.std.proofs.Common.{length, ◌-◌}
-use Rattle.at_wkt.proofs.Names.{SpellsList, ItemsSoFar, added_line, line_faults}
-use Rattle.at_wkt.proofs.line.parts.read_line_members.Given as goal
-
-abbrev pub invariant-members : goal.invariant-members
-invariant-members l = ItemsSoFar SpellsList (line_faults l.source.rules.digits l.source.rules.how) (added_line l.source.rules.digits l.source.rules.how) l.fn.lines.items l.lines.items l.source.rules.base l.source.text.now l.fn.from.at l.fn.from.dimension l.last
-
-abbrev pub decreases-members : goal.decreases-members
-decreases-members l = length l.source.text.now - l.last.behind.at
