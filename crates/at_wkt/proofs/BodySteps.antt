@@ -1,6 +1,6 @@
 -- Parts that are EMPTY or in brackets.
 -- For `read_line`, `read_geometry` and `Room::check_line`: what each kind of geometry spells behind its head.
-use Rattle.std.proofs.Common.{◌≡◌, ℕ, ◌+◌, ◌<◌, ◌≤◌, ◌⊎◌, inl, inr, Bool, true, false, not, ◌==◌, List, [], ◌∷◌, ◌++◌, length, codes, Option, Some, None, refl, sym, ◌∙◌, ap, subst, arith, true≢false, append_assoc}
+use Rattle.std.proofs.Common.{◌↔◌, ◌≡◌, ℕ, ◌+◌, ◌<◌, ◌≤◌, ◌⊎◌, inl, inr, Bool, true, false, not, ◌==◌, List, [], ◌∷◌, ◌++◌, length, codes, Option, Some, None, refl, sym, ◌∙◌, ap, subst, arith, true≢false, append_assoc}
 use Rattle.std.specs.Char.{to_ascii_uppercase}
 use Rattle.std.specs.Str.{str_to_ascii_uppercase}
 use Rattle.std.proofs.lemmas.List.{append_cancel_left}
@@ -101,27 +101,24 @@ enclosed_begins = open_begins (λ d p. Many is_blank ▸ (SpellsPosition d p ▸
 pub ring_begins : Begins is_open SpellsRing
 ring_begins d ps at v (e, h) = open_begins (λ d (ps : Positions). Many is_blank ▸ (Parted (SpellsPosition d) ps.items ▸ (Many is_blank ▸ Exactly (codes ")")))) d ps at v h
 
-pub point_choice : Choice SpellsPoint EnclosedPosition (λ p. Some p) None
-point_choice = record {
-  open_ = λ d x at v q. q;
-  empty = λ d at v k. k;
-  cases = point_cases;
-  bracket = enclosed_begins;
+-- a part of which there is one, or none for EMPTY
+option_choice : {X : Type 0} (P : ℕ → Option X → ℕ → List ℕ → Type 0) (Q : ℕ → X → ℕ → List ℕ → Type 0) → ((d at : ℕ) (v : List ℕ) → P d None at v ↔ EmptyWord at v) → ((d : ℕ) (x : X) (at : ℕ) (v : List ℕ) → P d (Some x) at v ↔ Q d x at v)
+    → Begins is_open Q → Choice P Q (λ x. Some x) None
+option_choice {X} P Q none some bracket = record {
+  open_ = λ d x at v. (some d x at v).1;
+  empty = λ d at v. (none d at v).1;
+  cases = by_case;
+  bracket = bracket;
 } where
-  point_cases : (d : ℕ) (y : Option Position) (at : ℕ) (v : List ℕ) → SpellsPoint d y at v → ((y ≡ None) × EmptyWord at v) ⊎ ((x : Position) × (y ≡ Some x) × EnclosedPosition d x at v)
-  point_cases d None at v h = inl (refl, h)
-  point_cases d (Some p) at v h = inr (p, refl, h)
+  by_case : (d : ℕ) (y : Option X) (at : ℕ) (v : List ℕ) → P d y at v → ((y ≡ None) × EmptyWord at v) ⊎ ((x : X) × (y ≡ Some x) × Q d x at v)
+  by_case d None at v h = inl (refl, (none d at v).0 h)
+  by_case d (Some x) at v h = inr (x, refl, (some d x at v).0 h)
+
+pub point_choice : Choice SpellsPoint EnclosedPosition (λ p. Some p) None
+point_choice = option_choice SpellsPoint EnclosedPosition (λ d at v. ((λ k. k), (λ k. k))) (λ d p at v. ((λ h. h), (λ h. h))) enclosed_begins
 
 pub list_choice : Choice SpellsList SpellsRing (λ ps. Some ps) None
-list_choice = record {
-  open_ = λ d x at v q. q;
-  empty = λ d at v k. k;
-  cases = list_cases;
-  bracket = ring_begins;
-} where
-  list_cases : (d : ℕ) (y : Option Positions) (at : ℕ) (v : List ℕ) → SpellsList d y at v → ((y ≡ None) × EmptyWord at v) ⊎ ((x : Positions) × (y ≡ Some x) × SpellsRing d x at v)
-  list_cases d None at v h = inl (refl, h)
-  list_cases d (Some p) at v h = inr (p, refl, h)
+list_choice = option_choice SpellsList SpellsRing (λ d at v. ((λ k. k), (λ k. k))) (λ d ps at v. ((λ h. h), (λ h. h))) ring_begins
 
 abbrev pub Bracketed : {X : Type 0} → (ℕ → X → ℕ → List ℕ → Type 0) → ℕ → List X → ℕ → List ℕ → Type 0
 Bracketed P d xs = InBrackets (Parted (P d) xs)

@@ -209,8 +209,8 @@ module _ {P : Type 0} (IsOwn : P → Type 0) (IsFold : P → List FileLine → T
     pub piece_has : (span : Span) → HoldsPiece at (drop at bytes) span → HasPiece bytes span (record { at = at; text = drop at bytes })
     piece_has span (h, s) = whole_has [] (record { at = at; text = drop at bytes }) [] span h s
 
-    pub piece_held : (whole : LineFragment P) (span : Span) → whole ≡ Piece span → StandsFor IsKept at (drop at bytes) whole → HoldsPiece at (drop at bytes) span
-    piece_held whole span e h = let P1 : LineFragment P → Type 0 = λ z. StandsFor IsKept at (drop at bytes) z in subst P1 e h
+    pub held : (whole made : LineFragment P) → whole ≡ made → StandsFor IsKept at (drop at bytes) whole → StandsFor IsKept at (drop at bytes) made
+    held whole made e h = let P1 : LineFragment P → Type 0 = λ z. StandsFor IsKept at (drop at bytes) z in subst P1 e h
 
     pub before_has : (whole : WholeLines P) (h : HoldsLines IsKept at (drop at bytes) whole) → HasPiece bytes whole.before h.first
     before_has whole h = whole_has [] h.first (h.inner ++ (h.last ∷ [])) whole.before h.pieces h.before

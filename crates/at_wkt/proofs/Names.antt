@@ -18,7 +18,7 @@ pub use Rattle.at_wkt.specs.Geometry.{EmptyOrParted, EmptyWord, Geometries, Geom
 pub use Rattle.at_wkt.specs.Lines.{FileLine, is_line_feed, pieces_from, without_return}
 pub use Rattle.at_wkt.specs.Meaning.{empty_shape, faults_of, faults_of_area, polygons_of, shape_of}
 pub use Rattle.at_wkt.specs.Positions.{Position, Positions, faults_in, faults_of_line, faults_of_ring, path_of, pos_of, position_faults, value_in}
-pub use Rattle.at_wkt.specs.Readers.{After, Allows, Body, BodyStands, Delimiter, DelimiterBreaks, DelimiterStands, EnclosedPosition, Expected, FurtherNumbers, FurtherThen, Gathers, Grows, HasCount, HeadStands, Item, ItemStands, Items, ItemsRead, ItemsSoFar, KeywordBreaks, KeywordStands, KindBreaks, KindsTried, Leads, LetterStands, Matches, Meaning, NumberBreaks, NumberSkips, NumberStands, PartStands, PathStands, PositionStands, PositionsSoFar, Reaches, SkipsBlanks, Spelt, Stuck, added_line, added_path, added_point, added_position, allows, allows_more, delimiter, ends_same, fault_of_path, faults_of_path, gathered_shape, is_delimiter, joined, line_faults, meaning_of, next, no_meaning, none_kept, opens, point_faults, word_of}
+pub use Rattle.at_wkt.specs.Readers.{After, Allows, Body, BodyStands, Delimiter, DelimiterBreaks, DelimiterStands, EnclosedPosition, Expected, FurtherNumbers, FurtherThen, Gathers, Grows, HasCount, HeadStands, Item, ItemStands, Items, ItemsRead, ItemsSoFar, KeywordBreaks, KeywordStands, KindBreaks, KindsTried, Leads, LetterStands, Matches, Meaning, NumberBreaks, NumberSkips, NumberStands, PartStands, PositionStands, PositionsSoFar, Reaches, SkipsBlanks, Spelt, Stuck, added_line, added_path, added_point, added_position, allows, allows_more, delimiter, ends_same, fault_of_path, faults_of_path, gathered_shape, is_delimiter, joined, line_faults, meaning_of, next, no_meaning, none_kept, opens, point_faults, word_of}
 pub use Rattle.at_wkt.specs.declared.answers.Prefix.{Prefix}
 pub use Rattle.at_wkt.specs.declared.line.dimension.Dimension.{Dimension}
 pub use Rattle.at_wkt.specs.declared.line.dimension.Dimension.TheVariants.{Fixed, Open}
@@ -28,7 +28,6 @@ pub use Rattle.at_wkt.specs.declared.line.kinds.Kind.{Kind}
 pub use Rattle.at_wkt.specs.declared.line.kinds.Kind.TheVariants.{GeometryCollection, LineString, MultiLineString, MultiPoint, MultiPolygon, Point, Polygon}
 pub use Rattle.at_wkt.specs.declared.line.parts.ItemRead.{ItemRead}
 pub use Rattle.at_wkt.specs.declared.line.parts.Read.{Read}
-pub use Rattle.at_wkt.specs.declared.line.paths.PathRead.{PathRead}
 pub use Rattle.at_wkt.specs.declared.line.paths.Role.{Role}
 pub use Rattle.at_wkt.specs.declared.line.paths.Role.TheVariants.{Line, Ring}
 pub use Rattle.at_wkt.specs.declared.line.positions.NumbersRead.{NumbersRead}

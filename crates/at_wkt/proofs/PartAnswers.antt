@@ -3,7 +3,7 @@
 use Rattle.std.proofs.Common.{lit<, ◌≡◌, ℕ, ◌+◌, ◌-◌, ◌<◌, ◌≤◌, Bool, true, false, ◌==◌, List, [], ◌∷◌, ◌++◌, length, map, flat_map, codes, Some, None, Result, refl, sym, ◌∙◌, ap, subst, arith, append-nil, append_assoc, true≢false}
 use native.Mathlib.Decide.{dec_lt}
 use Rattle.std.specs.Result.{MatchResult}
-use Rattle.at_wkt.proofs.Names.{Fault, first_of, Pos, Dimension, Halt, Rules, PositionRead, PathRead, Role, Read, ItemRead, Position, Positions, position_faults, path_of, polygons_of, faults_of_area, SpellsPosition, SpellsRing, SpellsArea, SpellsPoint, SpellsPointMember, EmptyOrParted, is_blank, between, IfStopped, next, Spelt, Stuck, SkipsBlanks, Delimiter, Item, Items, HasCount, KeywordStands, KeywordBreaks, DelimiterStands, DelimiterBreaks, opens, PositionStands, PathStands, PartStands, ItemStands, ItemsSoFar, Grows, EnclosedPosition, added_position, added_path, added_point, point_faults, faults_of_path}
+use Rattle.at_wkt.proofs.Names.{Fault, first_of, Pos, Dimension, Halt, Rules, PositionRead, Role, Read, ItemRead, Position, Positions, position_faults, path_of, polygons_of, faults_of_area, SpellsPosition, SpellsRing, SpellsArea, SpellsPoint, SpellsPointMember, EmptyOrParted, is_blank, between, IfStopped, next, Spelt, Stuck, SkipsBlanks, Delimiter, Item, Items, HasCount, KeywordStands, KeywordBreaks, DelimiterStands, DelimiterBreaks, opens, PositionStands, PartStands, ItemStands, ItemsSoFar, Grows, EnclosedPosition, added_position, added_path, added_point, point_faults, faults_of_path}
 use Rattle.at_geom.specs.declared.shapes.Polygon.{Polygon as PolygonOf}
 use Rattle.at_fixed.proofs.DigitParts.{part-part}
 use Rattle.at_wkt.proofs.Leads.{part-cons, Begins, Inhabited, counts}
@@ -118,15 +118,6 @@ module _ (rules : Rules) (w : List ℕ) (i : ℕ) (c : Dimension) (inside : i < 
     fault = h.fault;
     added = e ∙ ap (λ z. old ++ (z ∷ [])) h.pos;
   }
-
-pub added_stands : (rules : Rules) (w : List ℕ) (i : ℕ) (c : Dimension) (role : Role) (read : PathRead) (path : List Pos) (old new : List (List Pos)) → PathStands rules w i c role read → path ≡ read.path.items → new ≡ old ++ (path ∷ [])
-    → PartStands SpellsRing (faults_of_path rules.digits rules.how role) (Grows (added_path rules.digits rules.how) old new) rules.base w i c (record { fault = read.fault; behind = read.behind })
-added_stands rules w i c role read path old new h ep e = record {
-  value = h.positions;
-  spelt = h.spelt;
-  fault = h.fault;
-  added = e ∙ ap (λ z. old ++ (z ∷ [])) (ep ∙ h.path);
-}
 
 -- no ring begins with this byte
 pub ring_missing : (base : ℕ) (w : List ℕ) (i a : ℕ) (c : Dimension) → SkipsBlanks w i a → HasCount c → is_open (next w a) ≡ false → Stuck (Items SpellsRing) base w i c a

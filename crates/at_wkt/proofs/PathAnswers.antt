@@ -4,9 +4,8 @@ use Rattle.std.proofs.Common.{ap₂, ◌≡◌, ℕ, ◌+◌, ◌<◌, ◌≤◌
 use Rattle.std.specs.Ordering.{int_eq}
 use Rattle.std.proofs.lemmas.List.{map-append, length-map}
 use Rattle.std.proofs.lemmas.Grind.{flat_map-append}
-use Rattle.at_wkt.proofs.Names.{Fault, first_fault, first_of, comes_first, Pos, Dimension, Rules, PositionRead, PathRead, Read, Role, Line, Ring, ItemRead, Position, Positions, pos_of, position_faults, SpellsPosition, SpellsRing, PartStands, next, Spelt, Stuck, Item, Items, ItemsRead, HasCount, PositionStands, PositionsSoFar, ends_same, ItemsSoFar, ItemStands, Grows, none_kept, PathStands, fault_of_path, faults_of_path}
+use Rattle.at_wkt.proofs.Names.{Fault, first_fault, first_of, comes_first, Pos, Dimension, Rules, PositionRead, Read, Role, Line, Ring, ItemRead, Position, Positions, pos_of, position_faults, SpellsPosition, SpellsRing, PartStands, next, Spelt, Stuck, Item, Items, ItemsRead, HasCount, PositionStands, PositionsSoFar, ends_same, ItemsSoFar, ItemStands, Grows, added_path, fault_of_path, faults_of_path}
 use Rattle.at_geom.specs.Closed.{last_of}
-use Rattle.at_wkt.specs.declared.line.sources.Place.{Place}
 use Rattle.at_wkt.specs.declared.line.paths.ListRead.{ListRead}
 use Rattle.at_wkt.specs.Positions.{items_faults, is_faultless, is_closed}
 use Rattle.at_wkt.specs.Readers.{PositionsStand}
@@ -151,28 +150,21 @@ module _ (rules : Rules) (w : List ℕ) (i : ℕ) (c : Dimension) (inside : i < 
   faults_by Line own ps fs eo ef = own_first own _ fs (items_faults rules.digits rules.how ps.items) eo ef
   faults_by Ring own ps fs eo ef = own_first own _ fs (items_faults rules.digits rules.how ps.items) eo ef
 
-  path_is : (role : Role) (list : List Pos) (read : ListRead) (behind : Place) → (h : PositionsStand rules w (i + 1) c list read) (fault own : Option Fault)
-      → own ≡ fault_of_path role (length list) read.closes (rules.base + i) → fault ≡ first_fault own read.fault → behind.at ≡ read.behind.at → behind.dimension ≡ read.behind.dimension
-      → Spelt SpellsRing rules.base w i c behind.at behind.dimension (record { at = rules.base + i; items = h.positions }) × (fault ≡ first_of (faults_of_path rules.digits rules.how role (record { at = rules.base + i; items = h.positions })))
-  path_is role list read behind h fault own eo ef ee ed =
+  -- a line or a ring, of which this is kept
+  pub path_stands : {A : Positions → Type 0} (role : Role) (list : List Pos) (read : ListRead) (path : Read) → (h : PositionsStand rules w (i + 1) c list read) → (own : Option Fault)
+      → own ≡ fault_of_path role (length list) read.closes (rules.base + i) → path ≡ record { fault = first_fault own read.fault; behind = read.behind } → A (record { at = rules.base + i; items = h.positions })
+      → PartStands SpellsRing (faults_of_path rules.digits rules.how role) A rules.base w i c path
+  path_stands {A} role list read path h own eo is kept =
       let ps : Positions = record { at = rules.base + i; items = h.positions } in
-      let count : length list ≡ length h.positions = ap length h.list_is ∙ length-map h.positions (pos_of rules.digits rules.how) in (
-        subst (λ z. Spelt SpellsRing rules.base w i c behind.at z ps) (sym ed)
-            (subst (λ z. Spelt SpellsRing rules.base w i c z read.behind.dimension ps) (sym ee) ((ring_leads rules.base w i c inside here).spelt read.behind.at read.behind.dimension h.positions h.spelt)),
-        ef ∙ faults_by role own ps read.fault (eo ∙ (ap (λ z. fault_of_path role z read.closes (rules.base + i)) count ∙ ap (λ z. fault_of_path role (length h.positions) z (rules.base + i)) h.closes)) h.fault,
-      )
+      let count : length list ≡ length h.positions = ap length h.list_is ∙ length-map h.positions (pos_of rules.digits rules.how) in
+      subst (PartStands SpellsRing (faults_of_path rules.digits rules.how role) A rules.base w i c) (sym is) (record {
+        value = ps;
+        spelt = (ring_leads rules.base w i c inside here).spelt read.behind.at read.behind.dimension h.positions h.spelt;
+        fault = faults_by role own ps read.fault (eo ∙ (ap (λ z. fault_of_path role z read.closes (rules.base + i)) count ∙ ap (λ z. fault_of_path role (length h.positions) z (rules.base + i)) h.closes)) h.fault;
+        added = kept;
+      })
 
-  pub path_stands : (role : Role) (list : List Pos) (read : ListRead) (path : PathRead) → PositionsStand rules w (i + 1) c list read → path.path.items ≡ list → (own : Option Fault)
-      → own ≡ fault_of_path role (length list) read.closes (rules.base + i) → path.fault ≡ first_fault own read.fault → path.behind.at ≡ read.behind.at → path.behind.dimension ≡ read.behind.dimension
-      → PathStands rules w i c role path
-  path_stands role list read path h ep own eo ef ee ed =
-      let (spelt, fault) = path_is role list read path.behind h path.fault own eo ef ee ed in
-      record { positions = record { at = rules.base + i; items = h.positions }; spelt = spelt; path = ep ∙ h.list_is; fault = fault }
-
-  -- the same, where the path isn't kept
-  pub path_passed : (role : Role) (list : List Pos) (read : ListRead) (path : Read) → PositionsStand rules w (i + 1) c list read → (own : Option Fault)
-      → own ≡ fault_of_path role (length list) read.closes (rules.base + i) → path.fault ≡ first_fault own read.fault → path.behind.at ≡ read.behind.at → path.behind.dimension ≡ read.behind.dimension
-      → PartStands SpellsRing (faults_of_path rules.digits rules.how role) (Grows none_kept [] []) rules.base w i c path
-  path_passed role list read path h own eo ef ee ed =
-      let (spelt, fault) = path_is role list read path.behind h path.fault own eo ef ee ed in
-      record { value = record { at = rules.base + i; items = h.positions }; spelt = spelt; fault = fault; added = refl }
+  pub path_added : (role : Role) (list : List Pos) (read : ListRead) (path : Read) (shown : List Pos) (old new : List (List Pos)) → PositionsStand rules w (i + 1) c list read → (own : Option Fault)
+      → own ≡ fault_of_path role (length list) read.closes (rules.base + i) → path ≡ record { fault = first_fault own read.fault; behind = read.behind } → shown ≡ list → new ≡ old ++ (shown ∷ [])
+      → PartStands SpellsRing (faults_of_path rules.digits rules.how role) (Grows (added_path rules.digits rules.how) old new) rules.base w i c path
+  path_added role list read path shown old new h own eo is same e = path_stands role list read path h own eo is (e ∙ ap (λ z. old ++ (z ∷ [])) (same ∙ h.list_is))

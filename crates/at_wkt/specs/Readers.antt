@@ -34,7 +34,6 @@ use Rattle.at_wkt.specs.declared.line.checks.RowPassed.{RowPassed}
 use Rattle.at_wkt.specs.declared.line.paths.Role.{Role}
 use Rattle.at_wkt.specs.declared.line.paths.Role.TheVariants.{Line, Ring}
 use Rattle.at_wkt.specs.declared.line.paths.ListRead.{ListRead}
-use Rattle.at_wkt.specs.declared.line.paths.PathRead.{PathRead}
 use Rattle.at_wkt.specs.declared.line.parts.Read.{Read}
 use Rattle.at_wkt.specs.declared.line.parts.ItemRead.{ItemRead}
 use Rattle.at_text.specs.declared.faults.Fault.{Fault}
@@ -317,14 +316,6 @@ IsPassedList rules w i c passed = (list : List Pos) × (length list ≡ passed.c
 abbrev pub IsPassedRow : Rules → List ℕ → ℕ → Dimension → RowPassed → Type 0
 IsPassedRow rules w i c row = (closes : Bool)
     × IsPassedList rules w i c (record { count = row.count; closes = closes; behind = row.last.behind })
-
--- a line or a ring stands
-pub record PathStands (rules : Rules) (w : List ℕ) (i : ℕ) (c : Dimension) (role : Role) (read : PathRead)
-    : Type 0 where
-  pub positions : Positions
-  pub spelt : Spelt SpellsRing rules.base w i c read.behind.at read.behind.dimension positions
-  pub path : read.path.items ≡ path_of rules.digits rules.how positions
-  pub fault : read.fault ≡ first_of (faults_of_path rules.digits rules.how role positions)
 
 -- a part stands, of these faults, and what it adds was added
 pub record PartStands {X : Type 0} (P : ℕ → X → ℕ → List ℕ → Type 0) (faults : X → List Fault) (IsAdded : X

@@ -242,25 +242,6 @@ pub fn merge_lines<F: Fold>(
     }
 }
 
-/// The fold of all lines of a file with a line feed.
-fn finish_whole<F: Fold>(
-    alloc: Global,
-    fold: &F,
-    bytes: &[u8],
-    whole: WholeLines<F::Part>,
-) -> Result<F::Part, Memory>
-    requires fits { length bytes.now ≤ 2 ^ 28 }
-    requires whole { HoldsLines (IsPartOf F.Fold fold.now) (base_in bytes.now)
-        (drop (base_in bytes.now) bytes.now) whole }
-    ensures own { IfOk result (F.is_own fold.now) }
-    ensures fold { IfOk result (λ part. F.is_fold fold.now part (lines_of bytes.now)) }
-{
-    let none = fold.none(alloc);
-    let first = fold_span(alloc, fold, none, bytes, whole.before)?;
-    let part = fold.join(alloc, first, whole.part)?;
-    fold_span(alloc, fold, part, bytes, whole.behind)
-}
-
 /// The fold of all lines of a file that aren't blank, the last one without an end included, from the fragment of all
 /// its bytes behind a byte order mark.
 ///
@@ -285,6 +266,11 @@ pub fn finish_lines<F: Fold>(
             let none = fold.none(alloc);
             fold_span(alloc, fold, none, bytes, span)
         }
-        LineFragment::Lines(whole) => finish_whole(alloc, fold, bytes, whole),
+        LineFragment::Lines(whole) => {
+            let none = fold.none(alloc);
+            let first = fold_span(alloc, fold, none, bytes, whole.before)?;
+            let part = fold.join(alloc, first, whole.part)?;
+            fold_span(alloc, fold, part, bytes, whole.behind)
+        }
     }
 }

@@ -16,13 +16,15 @@ ghost use Rattle.at_wkt.specs.Readers.{ReadsPart, ReadsItem, DelimiterStands, De
 ghost use Rattle.at_wkt.specs.Readers.{KeywordStands, KeywordBreaks};
 
 use crate::line::bytes::{letter_stands, skip_blanks, stands};
-use crate::line::paths::{Maker, Role, add_fault, empty_rings, read_path};
+use crate::line::paths::{
+    Maker, Role, add_fault, empty_path, empty_rings, path_fault, read_positions,
+};
 use crate::line::positions::{read_delimiter, read_position};
 use crate::line::sites::{BARE_POINT, POINT};
 use crate::line::sources::{Place, Source};
 use crate::line::words::read_empty;
 use at_geom::{Path, Paths, Polygon, Pos};
-use at_text::{Fault, Halt};
+use at_text::{Fault, Halt, first_fault};
 
 /// A part of a geometry that was read: its first fault, and the place behind it.
 #[derive(Clone, Copy)]
@@ -133,8 +135,8 @@ pub fn read_point(points: &mut Vec<Pos>, source: &Source, from: Place) -> Result
     }
 }
 
-/// Reads a line or a ring, whose opening bracket stands at the place, and adds it.
-fn read_added(
+/// Reads a line or a ring from its opening bracket, which stands at the place, to its closing one, and adds it.
+fn read_path(
     paths: &mut Vec<Path>,
     maker: &mut Maker,
     source: &Source,
@@ -147,10 +149,19 @@ fn read_added(
     ensures { ReadsPart SpellsRing (λ digits how. faults_of_path digits how role) added_path source.now.rules
         source.now.text.now from paths.old.items paths.new.items result }
 {
-    let read = read_path(maker, source, from, role)?;
-    paths.push(Path::from_vec(read.path))?;
+    let mut path = empty_path(maker)?;
+    let inside = Place {
+        at: from.at + 1,
+        ..from
+    };
+    let read = read_positions(&mut path, source, inside)?;
+    let count = path.as_slice().len();
+    maker.expected = count;
+    let at = source.rules.base + from.at as u32;
+    let own = path_fault(role, count as u32, read.closes, at);
+    paths.push(Path::from_vec(path))?;
     Ok(Read {
-        fault: read.fault,
+        fault: first_fault(own, read.fault),
         behind: read.behind,
     })
 }
@@ -168,7 +179,7 @@ pub fn read_line_string(
         lines.new.items result }
 {
     if stands(source.text, from.at, b'(') {
-        read_added(lines, maker, source, from, Role::Line)
+        read_path(lines, maker, source, from, Role::Line)
     } else {
         read_nothing(source.text, from)
     }
@@ -294,7 +305,7 @@ impl Listed for RingList {
         if !stands(source.text, at, b'(') {
             return Err(Halt::At(at));
         }
-        let ring = read_added(rings, maker, source, Place { at, ..from }, Role::Ring)?;
+        let ring = read_path(rings, maker, source, Place { at, ..from }, Role::Ring)?;
         end_item(source.text, ring)
     }
 }

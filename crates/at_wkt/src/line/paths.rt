@@ -1,11 +1,11 @@
 //! Lists of positions in brackets: lines and rings.
 
-ghost use Rattle.std.specs.Prelude.{◌≡◌, ◌+◌, ◌<◌, ◌≤◌, ◌&&◌, ◌||◌, [], not, is_none, length, MatchResult};
+ghost use Rattle.std.specs.Prelude.{◌≡◌, ◌≤◌, ◌&&◌, ◌||◌, [], not, is_none, length, MatchResult};
 ghost use Rattle.std.specs.Ordering.{int_eq};
 ghost use Rattle.at_text.specs.Faults.{first_fault as the_first};
 ghost use Rattle.at_text.specs.declared.halts.Halt.TheVariants.{Memory};
-ghost use Rattle.at_wkt.specs.Geometry.{SpellsPosition, SpellsRing};
-ghost use Rattle.at_wkt.specs.Readers.{next, Stuck, HasCount, Items, PositionsStand, PathStands};
+ghost use Rattle.at_wkt.specs.Geometry.{SpellsPosition};
+ghost use Rattle.at_wkt.specs.Readers.{Stuck, HasCount, Items, PositionsStand};
 ghost use Rattle.at_text.specs.Halts.{IfStopped};
 ghost use Rattle.at_wkt.specs.Readers.{fault_of_path};
 
@@ -34,14 +34,6 @@ pub struct ListRead {
     pub behind: Place,
 }
 
-/// A line or a ring that was read.
-#[derive(Drop)]
-pub struct PathRead {
-    pub path: Vec<Pos>,
-    pub fault: Option<Fault>,
-    pub behind: Place,
-}
-
 /// What paths are made with: where their room is taken, how many positions the one before had, and the room of a path
 /// and of a list of rings that were let go. The next path is expected to have as many positions as the one before.
 #[derive(Drop)]
@@ -63,7 +55,7 @@ pub fn no_paths(alloc: Global) -> Maker {
 }
 
 /// A path without positions, in the room of one that was let go, or else with room for as many as are expected.
-fn empty_path(maker: &mut Maker) -> Result<Vec<Pos>, Halt>
+pub fn empty_path(maker: &mut Maker) -> Result<Vec<Pos>, Halt>
     ensures { MatchResult result (λ path. path.items ≡ []) (λ halt. halt ≡ Memory) }
 {
     if maker.path.capacity() == 0 {
@@ -115,7 +107,7 @@ pub fn add_fault(before: Option<Fault>, fault: Option<Fault>) -> Option<Fault>
 }
 
 /// Reads positions up to the closing bracket into a path that has none.
-fn read_positions(path: &mut Vec<Pos>, source: &Source, from: Place) -> Result<ListRead, Halt>
+pub fn read_positions(path: &mut Vec<Pos>, source: &Source, from: Place) -> Result<ListRead, Halt>
     requires none { path.old.items ≡ [] }
     requires inside { from.at ≤ length source.now.text.now }
     requires count { HasCount from.dimension }
@@ -148,34 +140,4 @@ pub fn path_fault(role: Role, count: u32, closes: bool, at: u32) -> Option<Fault
         Role::Line => line_fault(count, at),
         Role::Ring => ring_fault(count, closes, at),
     }
-}
-
-/// Reads a line or a ring from its opening bracket, which stands at the place, to its closing one.
-pub fn read_path(
-    maker: &mut Maker,
-    source: &Source,
-    from: Place,
-    role: Role,
-) -> Result<PathRead, Halt>
-    requires inside { from.at < length source.now.text.now }
-    requires opener { next source.now.text.now from.at ≡ 0x28 }
-    requires count { HasCount from.dimension }
-    ensures { MatchResult result (PathStands source.now.rules source.now.text.now from.at from.dimension role)
-        (λ halt. IfStopped halt (Stuck SpellsRing source.now.rules.base source.now.text.now from.at from.dimension)) }
-{
-    let mut path = empty_path(maker)?;
-    let inside = Place {
-        at: from.at + 1,
-        ..from
-    };
-    let read = read_positions(&mut path, source, inside)?;
-    let positions = path.as_slice();
-    let count = positions.len() as u32;
-    maker.expected = positions.len();
-    let own = path_fault(role, count, read.closes, source.rules.base + from.at as u32);
-    Ok(PathRead {
-        path,
-        fault: first_fault(own, read.fault),
-        behind: read.behind,
-    })
 }
