@@ -8,7 +8,7 @@ use Rattle.at_wkt.proofs.Names.{Many, Exactly, ◌▸◌, Dimension, Position, P
 use Rattle.at_fixed.proofs.DigitParts.{part-part}
 use Rattle.at_wkt.proofs.Leads.{part-cons, ahead_stuck, Begins, Inhabited, same_or_less}
 use Rattle.at_wkt.proofs.Agreement.{Passes, Fails}
-use Rattle.at_wkt.proofs.Steps.{When, when_leads, no_blank, one_blanks}
+use Rattle.at_wkt.proofs.Steps.{When, when_leads, no_blank, one_byte}
 use Rattle.at_wkt.proofs.WordSteps.{Word, word_spelt, word_stuck, opens_no_blank}
 use Rattle.at_wkt.proofs.PositionSteps.{begins_number, number_first, begin_no_blank}
 use Rattle.at_wkt.proofs.ListSteps.{position_lives, items_inhabited, begins_other}
@@ -187,9 +187,7 @@ module _ (base : ℕ) (w : List ℕ) (i a : ℕ) (c : Dimension) (skips : SkipsB
     no_opener : (b : ℕ) (u : List ℕ) → x ≡ b ∷ u → opens b ≡ true → ⊥
     no_opener b u ex ob =
         let line : b1 ++ (b ∷ ((u ++ z) ++ r)) ≡ between w i a ++ (next w a ∷ t) = ap (λ q. b1 ++ ((q ++ z) ++ r)) (sym ex) ∙ (sym (append_assoc b1 (x ++ z) r) ∙ (ap (λ q. (b1 ++ q) ++ r) (sym ez) ∙ (ap (λ q. q ++ r) (sym e1) ∙ f))) in
-        let same : b1 ≡ between w i a = one_blanks b1 (between w i a) b (next w a) ((u ++ z) ++ r) t hb skips.blanks (opens_no_blank b ob) skips.stops line in
-        let rest : b ∷ ((u ++ z) ++ r) ≡ next w a ∷ t = append_cancel_left (between w i a) _ _ (ap (λ q. q ++ (b ∷ ((u ++ z) ++ r))) (sym same) ∙ line) in
-        let byte : b ≡ next w a = cc in
+        let (same, byte, rest) = one_byte b1 (between w i a) b (next w a) ((u ++ z) ++ r) t hb skips.blanks (opens_no_blank b ob) skips.stops line in
         true≢false (sym ob ∙ (ap opens byte ∙ bare))
 
     go : (y : Option Position) → SpellsPointMember d y (at + length b1) x → (p : Position) × (y ≡ Some p) × Item SpellsPosition d (p, last) at v

@@ -6,7 +6,7 @@ use Rattle.at_wkt.proofs.Names.{OneOrMore, ◌▸◌, Numeral, Dimension, Open, 
 use Rattle.at_text.specs.Parts.{At}
 use Rattle.at_fixed.proofs.DigitParts.{part-none}
 use Rattle.at_wkt.proofs.Leads.{part-more, Ahead, counts}
-use Rattle.at_wkt.proofs.Steps.{Then, Same, AreBlanks, one_blanks}
+use Rattle.at_wkt.proofs.Steps.{Then, Same, AreBlanks, one_byte}
 use Rattle.at_wkt.proofs.NumberSteps.{Number}
 use Rattle.at_wkt.proofs.Lists.{four_left, four_right}
 use Rattle.at_wkt.proofs.PositionSteps.{further_agrees, further_dead, delimiter_no_blank, delimiter_is}
@@ -45,9 +45,8 @@ module _ (base : ℕ) (w : List ℕ) (j m : ℕ) (skips : SkipsBlanks w j m) whe
       → (x ≡ between w j m) × (delimiter last ≡ next w m)
   delimiter_agrees last v x r s hx ev (t, es) e =
       let line : x ++ (delimiter last ∷ r) ≡ between w j m ++ (next w m ∷ t) = sym (append_assoc x (delimiter last ∷ []) r) ∙ (ap (λ z. z ++ r) (sym ev) ∙ (e ∙ ap (λ z. between w j m ++ z) es)) in
-      let same : x ≡ between w j m = one_blanks x (between w j m) (delimiter last) (next w m) r t hx skips.blanks (delimiter_no_blank last) skips.stops line in
-      let rest : delimiter last ∷ r ≡ next w m ∷ t = append_cancel_left (between w j m) _ _ (ap (λ z. z ++ (delimiter last ∷ r)) (sym same) ∙ line) in
-      (same, cc)
+      let (same, byte, rest) = one_byte x (between w j m) (delimiter last) (next w m) r t hx skips.blanks (delimiter_no_blank last) skips.stops line in
+      (same, byte)
 
   module _ (last : Bool) (here : next w m ≡ delimiter last) (inside : m < length w) where
     past : between w j (m + 1) ≡ between w j m ++ (next w m ∷ [])

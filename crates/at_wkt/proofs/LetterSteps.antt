@@ -9,7 +9,7 @@ use Rattle.at_wkt.proofs.Names.{Many, ◌▸◌, Dimension, Open, Fixed, is_blan
 use Rattle.at_wkt.specs.Readers.{LetterAt}
 use Rattle.at_fixed.proofs.DigitParts.{part-none, part-length, part-part}
 use Rattle.at_wkt.proofs.Leads.{part-one, part-cons, Ahead, Begins, same_or_less, leads_ahead}
-use Rattle.at_wkt.proofs.Steps.{no_blank, AreBlanks, one_blanks, not_blank}
+use Rattle.at_wkt.proofs.Steps.{no_blank, AreBlanks, one_blanks, one_byte, not_blank}
 use Rattle.at_wkt.proofs.WordSteps.{opens_no_blank, letter_no_blank, opens_no_letter, blank_no_letter, stream, one_letter, two_letters}
 
 pub no_gap : (w : List ℕ) (i j : ℕ) → SkipsBlanks w i j → no_blank (next w i) ≡ true → j ≡ i
@@ -57,9 +57,7 @@ module _ (w : List ℕ) (h i e j : ℕ) (c : Dimension) (pad : SkipsBlanks w h i
     no_letter f d bounds =
         let (t, et, more) = stream w i j s low gap.within ahead in
         let line : (b1 ++ b2) ++ (b ∷ x) ≡ between w h i ++ (next w i ∷ t) = f ∙ (ap (λ z. z ++ s) joint ∙ (append_assoc (between w h i) (between w i j) s ∙ ap (λ z. between w h i ++ z) et)) in
-        let same : b1 ++ b2 ≡ between w h i = one_blanks (b1 ++ b2) (between w h i) b (next w i) x t (All-append (λ b. IsTrue (is_blank b)) b1 b2 hb1 hb2) pad.blanks (opens_no_blank b ob) pad.stops line in
-        let rest : b ∷ x ≡ next w i ∷ t = append_cancel_left (between w h i) _ _ (ap (λ z. z ++ (b ∷ x)) (sym same) ∙ line) in
-        let byte : b ≡ next w i = cc in
+        let (same, byte, rest) = one_byte (b1 ++ b2) (between w h i) b (next w i) x t (All-append (λ b. IsTrue (is_blank b)) b1 b2 hb1 hb2) pad.blanks (opens_no_blank b ob) pad.stops line in
         elim letter [
           | inl (ee, ec, nz, nm) ↦ (
               let stays : j ≡ i = no_gap w i j (subst (λ z. SkipsBlanks w z j) ee gap) pad.stops in
@@ -75,11 +73,8 @@ module _ (w : List ℕ) (h i e j : ℕ) (c : Dimension) (pad : SkipsBlanks w h i
     first_letter y r ny f =
         let (t, et, more) = stream w i j s low gap.within ahead in
         let line : b1 ++ (y ∷ r) ≡ between w h i ++ (next w i ∷ t) = f ∙ (ap (λ z. z ++ s) joint ∙ (append_assoc (between w h i) (between w i j) s ∙ ap (λ z. between w h i ++ z) et)) in
-        let same : b1 ≡ between w h i = one_blanks b1 (between w h i) y (next w i) r t hb1 pad.blanks ny pad.stops line in
-        let rest : y ∷ r ≡ next w i ∷ t = append_cancel_left (between w h i) _ _ (ap (λ z. z ++ (y ∷ r)) (sym same) ∙ line) in
-        let byte : y ≡ next w i = cc in
-        let tails : r ≡ t = cc in
-        (same, byte, (λ less. tails ∙ more less))
+        let (same, byte, rest) = one_byte b1 (between w h i) y (next w i) r t hb1 pad.blanks ny pad.stops line in
+        (same, byte, (λ less. rest ∙ more less))
 
     -- what stands behind one letter: blanks or what opens, and no M
     behind_one : (r : List ℕ) → b2 ++ (b ∷ x) ≡ next w (i + 1) ∷ r → LetterAt w (i + 1) 0x4D → ⊥
@@ -135,19 +130,12 @@ module _ (w : List ℕ) (h i e j : ℕ) (c : Dimension) (pad : SkipsBlanks w h i
                     ∙ (ap (λ u. between w h i ++ (next w i ∷ u)) (sym (part-cons w (i + 1) j less gap.within)) ∙ (ap (λ u. between w h i ++ u) (sym (part-cons w i j two gap.within)) ∙ sym joint))))),
                 subst (λ z. Allows z d) (sym ec) (ed, omega (arith, ed), omega (arith, ed)),
               ))
-          | inr (inr (inr (ee, ec, zz, m))) ↦ absurd (elim (same_or_less (i + 1) j (omega (arith, ee, gap.order))) [
-            | inl last ↦ (
-                let (t, es) = ahead in
-                let two : i < j = omega (arith, last) in
-                let line : z ∷ (b2 ++ (b ∷ x)) ≡ next w (i + 1) ∷ t = rest two ∙ (ap (λ u. between w (i + 1) u ++ s) (sym last) ∙ (ap (λ u. u ++ s) (part-none w (i + 1) (omega (arith, last, gap.within))) ∙ (es ∙ ap (λ u. next w u ∷ t) (sym last)))) in
-                let second : z ≡ next w (i + 1) = cc in
-                m (ap to_ascii_uppercase (sym second) ∙ uz))
-            | inr less ↦ (
-                let two : i < j = omega arith in
-                let line : z ∷ (b2 ++ (b ∷ x)) ≡ next w (i + 1) ∷ (between w ((i + 1) + 1) j ++ s) = rest two ∙ ap (λ z. z ++ s) (part-cons w (i + 1) j less gap.within) in
-                let second : z ≡ next w (i + 1) = cc in
-                m (ap to_ascii_uppercase (sym second) ∙ uz))
-          ])
+          | inr (inr (inr (ee, ec, zz, m))) ↦ absurd (
+              let less : i < j = omega (arith, ee, gap.order) in
+              let (t, et, more) = stream w (i + 1) j s (omega arith) gap.within ahead in
+              let line : z ∷ (b2 ++ (b ∷ x)) ≡ next w (i + 1) ∷ t = rest less ∙ et in
+              let second : z ≡ next w (i + 1) = cc in
+              m (ap to_ascii_uppercase (sym second) ∙ uz))
         ]
 
     -- blanks, a letter or none, and blanks that agree with the text are those that stand there

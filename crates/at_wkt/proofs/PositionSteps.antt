@@ -6,7 +6,7 @@ use Rattle.std.proofs.ByRecursion.{All-append}
 use Rattle.at_wkt.proofs.Names.{is_digit, is_one_of, ◌▸◌, Numeral, fraction_text, exponent_text, numeral_text, IsAtMostOneOf, AreWktDigits, IsWktNumeral, WktNumber, Dimension, is_blank, SpellsNumber, SpellsFurther, between, next, Allows, Stuck, Leads, SkipsBlanks, NumberBreaks, NumberSkips, delimiter, Delimiter, FurtherNumbers, Reaches, is_delimiter}
 use Rattle.at_fixed.proofs.DigitParts.{part-length}
 use Rattle.at_wkt.proofs.Leads.{offset, Ahead, Begins, Inhabited, leads_ahead}
-use Rattle.at_wkt.proofs.Steps.{Then, no_blank, AreBlanks, one_blanks}
+use Rattle.at_wkt.proofs.Steps.{Then, no_blank, AreBlanks, one_blanks, one_byte}
 use Rattle.at_wkt.proofs.NumberSteps.{Number, stops_number, ends_there, front_viable}
 
 -- ---- first bytes
@@ -183,9 +183,7 @@ module _ (base : ℕ) (w : List ℕ) (j m : ℕ) (c : Dimension) (k : ℕ) (skip
   further_agrees d last at v r s q (t, es) e =
       let f = further_word k d last at v q in
       let line : f.blanks ++ (f.byte ∷ (f.rest ++ r)) ≡ between w j m ++ (next w m ∷ t) = sym (append_assoc f.blanks (f.byte ∷ f.rest) r) ∙ (ap (λ z. z ++ r) (sym f.text) ∙ (e ∙ ap (λ z. between w j m ++ z) es)) in
-      let same : f.blanks ≡ between w j m = one_blanks f.blanks (between w j m) f.byte (next w m) (f.rest ++ r) t f.are_blanks skips.blanks f.is_none skips.stops line in
-      let rest : f.byte ∷ (f.rest ++ r) ≡ next w m ∷ t = append_cancel_left (between w j m) _ _ (ap (λ z. z ++ (f.byte ∷ (f.rest ++ r))) (sym same) ∙ line) in
-      let byte : f.byte ≡ next w m = cc in
+      let (same, byte, rest) = one_byte f.blanks (between w j m) f.byte (next w m) (f.rest ++ r) t f.are_blanks skips.blanks f.is_none skips.stops line in
       let P : ℕ → List ℕ → Type 0 = λ b x. ((is_delimiter b ≡ true) × (k ≡ d)) ⊎ ((is_delimiter b ≡ false) × (k < d) × (x ≢ [])) in
       subst (P (next w m)) same (subst (λ b. P b f.blanks) byte f.cases)
 

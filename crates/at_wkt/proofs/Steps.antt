@@ -3,6 +3,7 @@
 use Rattle.std.proofs.Common.{◌≡◌, ℕ, ◌+◌, ◌<◌, ◌≤◌, ◌⊎◌, inl, inr, Bool, true, false, not, IsTrue, List, [], ◌∷◌, ◌++◌, length, refl, sym, ◌∙◌, ap, subst, arith, append_assoc, true≢false}
 use Rattle.std.specs.List.{AllByRecursion}
 use Rattle.std.proofs.lemmas.Bool.{not-true}
+use Rattle.std.proofs.lemmas.List.{append_cancel_left}
 use Rattle.at_wkt.proofs.Names.{Many, OneOrMore, ◌▸◌, Dimension, is_blank, between, next, Allows, Spelt, Stuck, Leads}
 use Rattle.at_fixed.proofs.DigitParts.{part-none}
 use Rattle.at_wkt.proofs.Leads.{offset, Ahead, Begins, Inhabited, same_length, leads_plain, leads_ahead, counts}
@@ -40,6 +41,13 @@ not_blank b h k = true≢false (sym k ∙ not-true (is_blank b) h)
 
 pub one_blanks : (a u : List ℕ) (b h : ℕ) (x y : List ℕ) → AreBlanks a → AreBlanks u → no_blank b ≡ true → no_blank h ≡ true → a ++ (b ∷ x) ≡ u ++ (h ∷ y) → a ≡ u
 one_blanks a u b h x y ha hu nb nh e = one_front is_blank a u b h x y ha hu (not-true (is_blank b) nb) (not-true (is_blank h) nh) e
+
+-- and the bytes behind them are the same
+pub one_byte : (a u : List ℕ) (b h : ℕ) (x y : List ℕ) → AreBlanks a → AreBlanks u → no_blank b ≡ true → no_blank h ≡ true → a ++ (b ∷ x) ≡ u ++ (h ∷ y) → (a ≡ u) × (b ≡ h) × (x ≡ y)
+one_byte a u b h x y ha hu nb nh e =
+    let same = one_blanks a u b h x y ha hu nb nh e in
+    let rest : b ∷ x ≡ h ∷ y = append_cancel_left u _ _ (ap (λ z. z ++ (b ∷ x)) (sym same) ∙ e) in
+    (same, cc, cc)
 
 module _ {Y : Type 0} (Q : ℕ → Y → ℕ → List ℕ → Type 0) (base : ℕ) (w : List ℕ) (i : ℕ) (c : Dimension) (j : ℕ) where
   same_blanks : AreBlanks (between w i j) → Begins no_blank Q → no_blank (next w j) ≡ true

@@ -104,20 +104,14 @@ kind_capitals _ = refl
 abbrev pub KindWord : ℕ → Kind → ℕ → List ℕ → Type 0
 KindWord d k = AnyCase (word_of k)
 
-no_more : (v : List ℕ) (x : ℕ) (xs : List ℕ) → v ≡ v ++ (x ∷ xs) → ⊥
-no_more v x xs e = omega (arith, ap length e, length-append v (x ∷ xs))
+no_longer : (k m : Kind) (x : ℕ) (xs : List ℕ) → word_of k ≡ word_of m ++ (x ∷ xs) → ⊥
+no_longer k m x xs e = omega (arith, ap length e, length-append (word_of m) (x ∷ xs), ap (λ z. length (word_of z)) (kind_from m k (x ∷ xs) e))
 
 pub kind_only : (k m : Kind) (v u r s : List ℕ) → capitals u ≡ word_of k → capitals v ≡ word_of m → v ++ r ≡ u ++ s → (m ≡ k) × (v ≡ u)
 kind_only k m v u r s eu ev e = elim (append_cases v r u s e) [
   | inl (same, rest) ↦ (sym (kind_from k m [] (sym ev ∙ (ap capitals same ∙ (eu ∙ sym (append-nil (word_of k)))))), same)
-  | inr (inl (x, xs, f, g)) ↦ absurd (
-      let line : word_of k ≡ word_of m ++ capitals (x ∷ xs) = sym eu ∙ (ap capitals f ∙ (capitals-append v (x ∷ xs) ∙ ap (λ z. z ++ capitals (x ∷ xs)) ev)) in
-      let same : m ≡ k = kind_from m k (capitals (x ∷ xs)) line in
-      no_more (word_of m) (to_ascii_uppercase x) (capitals xs) (ap word_of same ∙ line))
-  | inr (inr (x, xs, f, g)) ↦ absurd (
-      let line : word_of m ≡ word_of k ++ capitals (x ∷ xs) = sym ev ∙ (ap capitals f ∙ (capitals-append u (x ∷ xs) ∙ ap (λ z. z ++ capitals (x ∷ xs)) eu)) in
-      let same : k ≡ m = kind_from k m (capitals (x ∷ xs)) line in
-      no_more (word_of k) (to_ascii_uppercase x) (capitals xs) (ap word_of same ∙ line))
+  | inr (inl (x, xs, f, g)) ↦ absurd (no_longer k m (to_ascii_uppercase x) (capitals xs) (sym eu ∙ (ap capitals f ∙ (capitals-append v (x ∷ xs) ∙ ap (λ z. z ++ capitals (x ∷ xs)) ev))))
+  | inr (inr (x, xs, f, g)) ↦ absurd (no_longer m k (to_ascii_uppercase x) (capitals xs) (sym ev ∙ (ap capitals f ∙ (capitals-append u (x ∷ xs) ∙ ap (λ z. z ++ capitals (x ∷ xs)) eu))))
 ]
 
 pub kind_spelt : (k : Kind) (base : ℕ) (w : List ℕ) (i j : ℕ) (c : Dimension) → KeywordStands w i j (word_of k) → (d : ℕ) × Allows c d → Spelt KindWord base w i c j c k
