@@ -1,8 +1,8 @@
 -- How far plain numbers reach, where their digits are told by a mask and not read.
 -- For `leading_number`, `plain_len` and `plain_number`.
-use Rattle.std.proofs.Common.{◌≡◌, ℕ, ◌+◌, ◌-◌, ◌*◌, ◌^◌, ◌<◌, ◌≤◌, Bool, true, false, nat_lt, ◌==◌, ◌&&◌, ◌||◌, List, ◌++◌, length, slice_index, Ok, take, pos, neg_ℤ, if◌then◌else◌, inl, refl, sym, ap, ◌∙◌, subst, arith, lit<, pow-add}
+use Rattle.std.proofs.Common.{◌≡◌, ℕ, ◌+◌, ◌-◌, ◌*◌, ◌^◌, ◌<◌, ◌≤◌, Bool, true, false, nat_lt, ◌==◌, ◌&&◌, ◌||◌, List, ◌++◌, length, slice_index, Ok, take, ℤ, pos, neg_ℤ, if◌then◌else◌, inl, refl, sym, ap, ◌∙◌, subst, arith, lit<, pow-add}
 use Rattle.std.proofs.lemmas.Bool.{lt-ltb}
-use Rattle.at_fixed.specs.declared.extents.Extent.{Extent}
+use Rattle.at_fixed.specs.declared.number_ends.NumberEnd.{NumberEnd}
 use Rattle.at_fixed.specs.declared.notation.Notation.{Notation}
 use Rattle.at_fixed.specs.declared.rounding.Coords.{Coords}
 use Rattle.at_fixed.specs.declared.rounding.Coords.TheVariants.{Round}
@@ -10,11 +10,11 @@ use Rattle.at_fixed.specs.declared.scanning.Mantissa.{Mantissa}
 use Rattle.at_fixed.specs.declared.scanning.Sign.{Sign}
 use Rattle.at_fixed.specs.declared.short_numbers.Whole.{Whole}
 use Rattle.at_fixed.specs.NumberSoFar.{between, digits_behind, Keeps}
-use Rattle.at_fixed.specs.Scans.{EndsRun, IsExtent, IsKeptFront, IsLead, IsSizedIn, IsTenth, ReadsMantissa, ReadsSign, ReadsWhole, SurelyFits, is_wkt, may_take_point}
+use Rattle.at_fixed.specs.Scans.{EndsRun, IsNumberEnd, IsKeptFront, IsLead, IsSizedIn, IsTenth, ReadsMantissa, ReadsSign, ReadsWhole, SurelyFits, is_wkt, may_take_point}
 use Rattle.at_text.specs.Prefix.{TakesLongest}
-use Rattle.at_fixed.specs.Fixed.{IsFixedOf, largest}
+use Rattle.at_fixed.specs.Fixed.{largest}
 use Rattle.at_fixed.specs.Numerals.{AreDigits, NumberOf}
-use Rattle.at_fixed.specs.Scanned.{IsValued}
+use Rattle.at_fixed.specs.Scanned.{IsPlain, IsValued}
 use Rattle.at_fixed.specs.States.{is_letter}
 use Rattle.at_fixed.proofs.DigitParts.{behind-both, behind_small, behind_split, part-length, part-part, run_whole}
 use Rattle.at_fixed.proofs.Endings.{longest_by}
@@ -86,35 +86,35 @@ module _ (g : Notation) (w : List ℕ) (sign : Sign) (point : ℕ) (signs : Read
     bound = bound;
   }
 
-  pub plain_extent : point ≤ 19 → (slice_index w point == 0x2E) ≡ false → IsExtent g w (record { end = point; fraction = 0 })
-  plain_extent few none = (lead_read, plain_front few none, refl, refl, omega (arith, few))
+  pub plain_end : point ≤ 19 → (slice_index w point == 0x2E) ≡ false → IsNumberEnd g w (record { end = point; fraction = 0 })
+  plain_end few none = (lead_read, plain_front few none, refl, refl, omega (arith, few))
 
-  module _ (extent : Extent) (behind : EndsRun w (point + 1) extent.end) (count : extent.end ≡ point + 1 + extent.fraction) (more : 0 < extent.fraction) (few : extent.end ≤ 20) where
+  module _ (number : NumberEnd) (behind : EndsRun w (point + 1) number.end) (count : number.end ≡ point + 1 + number.fraction) (more : 0 < number.fraction) (few : number.end ≤ 20) where
     -- what all digits spell
     abbrev value : ℕ
-    value = digits_behind lead_value (between w (point + 1) extent.end)
+    value = digits_behind lead_value (between w (point + 1) number.end)
 
-    value_small : value < 10 ^ ((0 + (point - sign.end)) + (extent.end - (point + 1)))
-    value_small = kept_small w (point + 1) extent.end lead_value value (0 + (point - sign.end)) behind.order (omega (arith, behind.within)) behind.digits refl lead_small
+    value_small : value < 10 ^ ((0 + (point - sign.end)) + (number.end - (point + 1)))
+    value_small = kept_small w (point + 1) number.end lead_value value (0 + (point - sign.end)) behind.order (omega (arith, behind.within)) behind.digits refl lead_small
 
     fits : value < 10 ^ 19
-    fits = room_more value ((0 + (point - sign.end)) + (extent.end - (point + 1))) 19 value_small (omega (arith, count, few, some))
+    fits = room_more value ((0 + (point - sign.end)) + (number.end - (point + 1))) 19 value_small (omega (arith, count, few, some))
 
     -- there are fewer than nineteen digits before the point, so what they spell has room for another
     lead_room : lead_value < 10 ^ 18
     lead_room = room_more lead_value (0 + (point - sign.end)) 18 lead_small (omega (arith, count, few, more))
 
     abbrev front : Mantissa
-    front = record { end = extent.end; is_number = true; is_minus = sign.is_minus; digits = record { kept = value; dropped = 0; is_cut = false }; fraction = extent.end - (point + 1) }
+    front = record { end = number.end; is_number = true; is_minus = sign.is_minus; digits = record { kept = value; dropped = 0; is_cut = false }; fraction = number.end - (point + 1) }
 
     reads : (slice_index w point == 0x2E) ≡ true → ReadsMantissa g w front
     reads stands =
         let inside : point < length w = run.within in
         let may : may_take_point g w lead_read ≡ true = point_taken (nat_lt point (length w)) (slice_index w point == 0x2E) (lt-ltb point (length w) inside) stands in
-        fraction_by g w lead_read (record { end = extent.end; digits = record { kept = value; dropped = 0; is_cut = false } }) true (lead_reads (omega (arith, count, few, more)))
+        fraction_by g w lead_read (record { end = number.end; digits = record { kept = value; dropped = 0; is_cut = false } }) true (lead_reads (omega (arith, count, few, more)))
         may behind.order (omega (arith, behind.within)) behind.digits (λ _. behind.stops) fits (omega arith)
-        (λ m h. run_whole w (point + 1) extent.end lead_value 0 m value false behind.order (omega (arith, behind.within)) h refl fits (λ big. absurd (omega (arith, big, lead_room))))
-        (sym (ap (λ b. b || (true && is_wkt g)) (lt-ltb (point + 1) extent.end (omega (arith, count, more))))) where
+        (λ m h. run_whole w (point + 1) number.end lead_value 0 m value false behind.order (omega (arith, behind.within)) h refl fits (λ big. absurd (omega (arith, big, lead_room))))
+        (sym (ap (λ b. b || (true && is_wkt g)) (lt-ltb (point + 1) number.end (omega (arith, count, more))))) where
           point_taken : (a b : Bool) → a ≡ true → b ≡ true → (a && (b && true)) ≡ true
           point_taken a b h k = rw (h, k) refl
 
@@ -124,18 +124,18 @@ module _ (g : Notation) (w : List ℕ) (sign : Sign) (point : ℕ) (signs : Read
       reads = reads stands;
       is_number = refl;
       dropped = refl;
-      small = room_more value ((0 + (point - sign.end)) + (extent.end - (point + 1))) extent.end value_small (omega (arith, count, more));
+      small = room_more value ((0 + (point - sign.end)) + (number.end - (point + 1))) number.end value_small (omega (arith, count, more));
     }
 
-    pub pointed_whole : (digits : ℕ) (how : Coords) (size more_size : ℕ) → size ≡ lead_value * 10 ^ digits → more_size ≡ digits_behind 0 (between w (point + 1) extent.end) * 10 ^ (digits - extent.fraction)
-        → extent.fraction ≤ digits → size + more_size ≤ largest → (slice_index w point == 0x2E) ≡ true
-        → IsSizedIn g w digits how (record { end = extent.end; is_minus = sign.is_minus; size = size + more_size })
+    pub pointed_whole : (digits : ℕ) (how : Coords) (size more_size : ℕ) → size ≡ lead_value * 10 ^ digits → more_size ≡ digits_behind 0 (between w (point + 1) number.end) * 10 ^ (digits - number.fraction)
+        → number.fraction ≤ digits → size + more_size ≤ largest → (slice_index w point == 0x2E) ≡ true
+        → IsSizedIn g w digits how (record { end = number.end; is_minus = sign.is_minus; size = size + more_size })
     pointed_whole digits how size more_size is more_is whole bound stands =
-        let ds : List ℕ = between w (point + 1) extent.end in
-        let f : ℕ = extent.end - (point + 1) in
+        let ds : List ℕ = between w (point + 1) number.end in
+        let f : ℕ = number.end - (point + 1) in
         let r : ℕ = digits_behind 0 ds in
-        let place : extent.fraction ≡ f = omega (arith, count) in
-        let long : length ds ≡ f = omega (arith, part-length w (point + 1) extent.end behind.order (omega (arith, behind.within))) in
+        let place : number.fraction ≡ f = omega (arith, count) in
+        let long : length ds ≡ f = omega (arith, part-length w (point + 1) number.end behind.order (omega (arith, behind.within))) in
         let split : value ≡ lead_value * 10 ^ f + r = ap (λ n. digits_behind n ds) (omega arith) ∙ (behind_split lead_value 0 ds ∙ ap (λ n. lead_value * 10 ^ n + r) long) in
         let both : size + more_size ≡ lead_value * 10 ^ digits + r * 10 ^ (digits - f) = omega (arith, is, more_is, ap (λ n. r * 10 ^ (digits - n)) place) in
         let few_places : f ≤ digits = omega (arith, place, whole) in
@@ -151,20 +151,20 @@ module _ (g : Notation) (w : List ℕ) (sign : Sign) (point : ℕ) (signs : Read
 
     -- a number with more digits behind its point than are kept
     pub pointed_rounded : (digits size first tenth : ℕ) → size ≡ lead_value * 10 ^ digits → first ≡ digits_behind 0 (between w (point + 1) (point + 1 + (digits + 1)))
-        → digits < extent.fraction → IsTenth first (digits_behind 0 (between w (point + 1 + (digits + 1)) extent.end)) tenth → size + tenth ≤ largest → (slice_index w point == 0x2E) ≡ true
-        → IsSizedIn g w digits Round (record { end = extent.end; is_minus = sign.is_minus; size = size + tenth })
+        → digits < number.fraction → IsTenth first (digits_behind 0 (between w (point + 1 + (digits + 1)) number.end)) tenth → size + tenth ≤ largest → (slice_index w point == 0x2E) ≡ true
+        → IsSizedIn g w digits Round (record { end = number.end; is_minus = sign.is_minus; size = size + tenth })
     pointed_rounded digits size first tenth is first_is long is_tenth bound stands =
         let mid : ℕ = point + 1 + (digits + 1) in
-        let f : ℕ = extent.end - (point + 1) in
-        let near : mid ≤ extent.end = omega (arith, count, long) in
-        let within : extent.end ≤ length w = omega (arith, behind.within) in
+        let f : ℕ = number.end - (point + 1) in
+        let near : mid ≤ number.end = omega (arith, count, long) in
+        let within : number.end ≤ length w = omega (arith, behind.within) in
         let fs : List ℕ = between w (point + 1) mid in
-        let rs : List ℕ = between w mid extent.end in
+        let rs : List ℕ = between w mid number.end in
         let R : ℕ = digits_behind 0 rs in
-        let digits_are : AreDigits rs = (first_digits w (point + 1) mid extent.end (omega arith) near within behind.digits).1 in
-        let parts : between w (point + 1) extent.end ≡ fs ++ rs = part-part w (point + 1) mid extent.end (omega arith) near within in
+        let digits_are : AreDigits rs = (first_digits w (point + 1) mid number.end (omega arith) near within behind.digits).1 in
+        let parts : between w (point + 1) number.end ≡ fs ++ rs = part-part w (point + 1) mid number.end (omega arith) near within in
         let firsts : length fs ≡ digits + 1 = omega (arith, part-length w (point + 1) mid (omega arith) (omega (arith, near, within))) in
-        let rests : length rs ≡ extent.end - mid = omega (arith, part-length w mid extent.end near within) in
+        let rests : length rs ≡ number.end - mid = omega (arith, part-length w mid number.end near within) in
         let K : ℕ = lead_value * 10 ^ (digits + 1) + first in
         let kept : digits_behind lead_value fs ≡ K =
         ap (λ n. digits_behind n fs) (omega arith) ∙ (behind_split lead_value 0 fs ∙ (ap (λ n. lead_value * 10 ^ n + digits_behind 0 fs) firsts ∙ ap (λ n. lead_value * 10 ^ (digits + 1) + n) (sym first_is))) in
@@ -180,8 +180,8 @@ module _ (g : Notation) (w : List ℕ) (sign : Sign) (point : ℕ) (signs : Read
           bound = bound;
         }
 
-    pub pointed_extent : (slice_index w point == 0x2E) ≡ true → IsExtent g w extent
-    pointed_extent stands = (front, pointed_front stands, refl, omega (arith, count), omega (arith, few))
+    pub pointed_end : (slice_index w point == 0x2E) ≡ true → IsNumberEnd g w number
+    pointed_end stands = (front, pointed_front stands, refl, omega (arith, count), omega (arith, few))
 
 -- behind which no exponent stands
 front_taken : (g : Notation) (w : List ℕ) (front : Mantissa) → IsKeptFront g w front → is_letter (slice_index w front.end) ≡ false
@@ -193,27 +193,22 @@ front_taken g w front kept letter =
     })
 
 -- a number that reaches so far surely has a value
-pub valued_by : (g : Notation) (w : List ℕ) (extent : Extent) (digits : ℕ) (how : Coords) → IsExtent g w extent → is_letter (slice_index w extent.end) ≡ false
-    → SurelyFits extent.end extent.fraction digits how → IsValued g w digits how extent.end
-valued_by g w extent digits how (front, kept, end, fraction, near) letter fits =
-    let sure : SurelyFits front.end front.fraction digits how = subst (λ e. SurelyFits e front.fraction digits how) (sym end) (subst (λ f. SurelyFits extent.end f digits how) (sym fraction) fits) in
-    let (n, is_numeral, text, (v, e)) = valued g w front digits how kept sure in
-    let Q : ℕ → Type 0 = λ z. is_letter (slice_index w z) ≡ false in
+pub valued_by : (g : Notation) (w : List ℕ) (number : NumberEnd) (digits : ℕ) (how : Coords) → IsNumberEnd g w number → is_letter (slice_index w number.end) ≡ false
+    → SurelyFits number.end number.fraction digits how → IsValued g w digits how number.end
+valued_by g w number digits how (front, kept, end, fraction, near) letter fits =
+    let (n, is_numeral, text, (v, e)) = valued g w front digits how kept (rw (end, fraction) fits) in
     subst (IsValued g w digits how) end (record {
-      taken = front_taken g w front kept (subst Q (sym end) letter);
+      taken = front_taken g w front kept (rw end letter);
       value = v;
       value_is = fixed_by g (take front.end w) digits how (Ok v) n is_numeral text (sym e);
     })
 
 -- and this value, where it is whole
-pub whole_taken : (g : Notation) (w : List ℕ) (digits : ℕ) (how : Coords) (whole : Whole) → IsSizedIn g w digits how whole → is_letter (slice_index w whole.end) ≡ false
-    → TakesLongest (NumberOf g) w (record { len = whole.end; whole = true })
-whole_taken g w digits how whole h letter =
-    let Q : ℕ → Type 0 = λ z. is_letter (slice_index w z) ≡ false in
-    let P : ℕ → Type 0 = λ z. TakesLongest (NumberOf g) w (record { len = z; whole = true }) in
-    subst P h.end (front_taken g w h.front h.kept (subst Q (sym h.end) letter))
-
-pub whole_fixed : (g : Notation) (w : List ℕ) (digits : ℕ) (how : Coords) (whole : Whole) → IsSizedIn g w digits how whole
-    → IsFixedOf (take whole.end w) digits how (Ok (if whole.is_minus then neg_ℤ (pos whole.size) else pos whole.size))
-whole_fixed g w digits how whole h =
-    let (n, is_numeral, text, e) = valued_whole g w digits how whole h in fixed_by g (take whole.end w) digits how _ n is_numeral text (sym e)
+pub whole_plain : (g : Notation) (w : List ℕ) (digits : ℕ) (how : Coords) (whole : Whole) (v : ℤ) → IsSizedIn g w digits how whole → is_letter (slice_index w whole.end) ≡ false
+    → v ≡ (if whole.is_minus then neg_ℤ (pos whole.size) else pos whole.size) → IsPlain g w digits how (record { len = whole.end; value = v })
+whole_plain g w digits how whole v h letter e =
+    let (n, is_numeral, text, is) = valued_whole g w digits how whole h in
+    record {
+      taken = subst (λ z. TakesLongest (NumberOf g) w (record { len = z; whole = true })) h.end (front_taken g w h.front h.kept (rw h.end letter));
+      value = fixed_by g (take whole.end w) digits how (Ok v) n is_numeral text (ap Ok e ∙ sym is);
+    }

@@ -10,11 +10,10 @@ use Rattle.at_fixed.specs.declared.notation.Notation.{Notation}
 use Rattle.at_fixed.specs.declared.notation.Notation.TheVariants.{Json, Wkt}
 use Rattle.at_fixed.specs.declared.rounding.Coords.{Coords}
 use Rattle.at_fixed.specs.declared.rounding.FixedFault.{FixedFault}
-use Rattle.at_fixed.specs.Numerals.{Numeral, numeral_text, IsAtMostOneOf, AreDigits, AreSomeDigits, IsJsonWhole, IsJsonNumeral, AreWktDigits, IsWktNumeral, IsNumeralOf, SpellsNumeral, JsonNumber, WktNumber}
+use Rattle.at_fixed.specs.Numerals.{Numeral, numeral_text, IsAtMostOneOf, AreDigits, AreSomeDigits, IsJsonWhole, IsJsonNumeral, AreWktDigits, IsWktNumeral, IsNumeralOf, NumberOf, SpellsNumeral, JsonNumber, WktNumber}
 use Rattle.at_fixed.specs.Fixed.{fixed_of, IsFixedOf}
 use Rattle.at_fixed.specs.Decimals.{IsDecimalOf}
-use Rattle.at_fixed.specs.Scanned.{IsScanned}
-use Rattle.at_fixed.specs.declared.numbers.PlainNumber.{PlainNumber}
+use Rattle.at_fixed.specs.Scanned.{IsPlain, IsScanned}
 use Rattle.at_fixed.specs.declared.scanning.Scanned.{Scanned}
 use Rattle.at_fixed.proofs.NumeralParts.{one_numeral, some_are_digits}
 
@@ -61,14 +60,14 @@ fixed_by g text digits how answer n h e v = record {
 }
 
 -- what a scan found at the beginning of a text, where it has a value
-pub valued_number : (g : Notation) (w : List ℕ) (digits : ℕ) (how : Coords) (scanned : Scanned) (found : Option PlainNumber)
-    → IsScanned g w scanned × (scanned.is_number ≡ true) → IfSome found (λ number. number.len ≡ scanned.len)
-    → IfSome found (λ number. (n : Numeral) → IsDecimalOf scanned.decimal n → Ok number.value ≡ fixed_of n digits how)
-    → IfSome found (λ number. IsFixedOf (take number.len w) digits how (Ok number.value))
-valued_number g w digits how scanned None h len value = tt
-valued_number g w digits how scanned (Some number) (h, is_number) len value =
+pub scanned_plain : (g : Notation) (w : List ℕ) (digits : ℕ) (how : Coords) (scanned : Scanned) (value : ℤ) → IsScanned g w scanned × (scanned.is_number ≡ true)
+    → ((n : Numeral) → IsDecimalOf scanned.decimal n → Ok value ≡ fixed_of n digits how) → IsPlain g w digits how (record { len = scanned.len; value = value })
+scanned_plain g w digits how scanned value (h, is_number) value_is =
     let (n, m, e, kept) = h.value is_number in
-    fixed_by g (take number.len w) digits how (Ok number.value) n m (ap (λ l. take l w) len ∙ e) (value n kept)
+    record {
+      taken = subst (λ b. TakesLongest (NumberOf g) w (record { len = scanned.len; whole = b })) is_number h.taken;
+      value = fixed_by g (take scanned.len w) digits how (Ok value) n m e (value_is n kept);
+    }
 
 pub json_text : (w : List ℕ) → JsonNumber w ⊎ WktNumber w → WktNumber w
 json_text w (inl (n, h, e)) = (n, json_is_wkt n h, e)

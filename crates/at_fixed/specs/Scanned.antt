@@ -2,6 +2,7 @@
 use Rattle.std.specs.Prelude.{◌≡◌, ℕ, ◌+◌, ◌^◌, ◌<◌, IsTrue, true, if◌then◌else◌, List, take, ℤ, Ok}
 use Rattle.at_text.specs.Prefix.{TakesLongest}
 use Rattle.at_fixed.specs.declared.notation.Notation.{Notation}
+use Rattle.at_fixed.specs.declared.plain_numbers.PlainNumber.{PlainNumber}
 use Rattle.at_fixed.specs.declared.scanning.Mantissa.{Mantissa}
 use Rattle.at_fixed.specs.declared.scanning.Power.{Power}
 use Rattle.at_fixed.specs.declared.scanning.Scanned.{Scanned}
@@ -29,6 +30,11 @@ pub record IsValued (notation : Notation) (w : List ℕ) (digits : ℕ) (how : C
   pub taken : TakesLongest (NumberOf notation) w (record { len = len; whole = true })
   pub value : ℤ
   pub value_is : IsFixedOf (take len w) digits how (Ok value)
+
+-- the number begins the text
+pub record IsPlain (notation : Notation) (w : List ℕ) (digits : ℕ) (how : Coords) (number : PlainNumber) : Type 0 where
+  pub taken : TakesLongest (NumberOf notation) w (record { len = number.len; whole = true })
+  pub value : IsFixedOf (take number.len w) digits how (Ok number.value)
 
 -- the longest prefix that is the beginning of a number, and what that number is
 pub record IsScanned (notation : Notation) (w : List ℕ) (scanned : Scanned) : Type 0 where

@@ -9,7 +9,7 @@ use Rattle.at_fixed.specs.declared.rounding.Coords.TheVariants.{Round}
 use Rattle.at_fixed.specs.declared.digits.DigitsRun.{DigitsRun}
 use Rattle.at_fixed.specs.declared.digits.KeptRun.{KeptRun}
 use Rattle.at_fixed.specs.declared.ends.Ends.{Ends}
-use Rattle.at_fixed.specs.declared.extents.Extent.{Extent}
+use Rattle.at_fixed.specs.declared.number_ends.NumberEnd.{NumberEnd}
 use Rattle.at_fixed.specs.declared.scanning.Sign.{Sign}
 use Rattle.at_fixed.specs.declared.scanning.Mantissa.{Mantissa}
 use Rattle.at_fixed.specs.declared.scanning.Power.{Power}
@@ -172,9 +172,9 @@ pub record IsKeptFront (notation : Notation) (w : List ℕ) (read : Mantissa) : 
   pub small : read.digits.kept < 10 ^ read.end
 
 -- a number up to its exponent ends there, with so many digits behind its point
-abbrev pub IsExtent : Notation → List ℕ → Extent → Type 0
-IsExtent notation w extent = (front : Mantissa) × IsKeptFront notation w front × (front.end ≡ extent.end)
-    × (front.fraction ≡ extent.fraction) × (extent.end < 32)
+abbrev pub IsNumberEnd : Notation → List ℕ → NumberEnd → Type 0
+IsNumberEnd notation w number = (front : Mantissa) × IsKeptFront notation w front × (front.end ≡ number.end)
+    × (front.fraction ≡ number.fraction) × (number.end < 32)
 
 -- a number up to its exponent, and its size in units of 10 ^ -digits, exact or rounded
 pub record IsSizedIn (notation : Notation) (w : List ℕ) (digits : ℕ) (how : Coords) (whole : Whole) : Type 0 where

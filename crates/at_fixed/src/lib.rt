@@ -15,11 +15,12 @@
 mod digits;
 mod eights;
 mod ends;
-mod extents;
 mod gaps;
 mod notation;
+mod number_ends;
 mod numbers;
 mod plain_numbers;
+mod plain_scanning;
 mod powers;
 mod rounding;
 mod scanning;
@@ -28,9 +29,7 @@ mod units;
 mod writing;
 
 pub use notation::Notation;
-pub use numbers::{
-    LeadingNumber, PlainNumber, json_number, leading_number, plain_len, plain_number, read_fixed,
-    wkt_number,
-};
+pub use numbers::{LeadingNumber, json_number, leading_number, read_fixed, wkt_number};
+pub use plain_numbers::{PlainNumber, plain_len, plain_number};
 pub use rounding::{Coords, FixedFault};
 pub use writing::write_fixed;

@@ -9,8 +9,8 @@ ghost use Rattle.at_fixed.specs.Scans.{AreEnds, EndsRun, IsLead, IsSizedIn, IsTe
 
 use crate::eights::spelled_number;
 use crate::ends::Ends;
-use crate::extents::is_lead;
 use crate::notation::Notation;
+use crate::number_ends::is_lead;
 use crate::powers::power_of_ten;
 use crate::rounding::Coords;
 

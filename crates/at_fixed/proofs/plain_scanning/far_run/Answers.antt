@@ -1,0 +1,17 @@
+use Rattle.std.proofs.Common.{◌-◌, refl, arith}
+use Rattle.at_fixed.proofs.PlainRuns.{kept_small, room_more, run_to}
+use Rattle.at_fixed.proofs.plain_scanning.far_run.Goals as goal
+
+pub keep_to-requires-clause-room : goal.keep_to-requires-clause-room
+keep_to-requires-clause-room c = room_more c.args.before (19 - c.args.room) (19 - (c.args.to - c.args.from)) c.requires.room (omega (arith, c.requires.fits))
+
+pub returns-clause-keeps : goal.returns-clause-keeps
+returns-clause-keeps c =
+    let run = c.requires.run in
+    let (keeps, near) = c.in_ok-kept.ensures in
+    record {
+      keeps = run_to c.args.text.now c.args.from c.args.to c.args.before c.in_ok-kept.kept run keeps;
+      whole = refl;
+      near = near;
+      small = kept_small c.args.text.now c.args.from c.args.to c.args.before c.in_ok-kept.kept (19 - c.args.room) run.order (omega (arith, run.within)) run.digits keeps.value c.requires.room;
+    }
