@@ -4,10 +4,10 @@ use Rattle.std.proofs.Common.{◌≡◌, ℕ, zero, suc, lit<, ◌+◌, ◌-◌,
 use Rattle.std.proofs.lemmas.Bool.{cases_eq}
 use Rattle.std.proofs.lemmas.Nat.{pow-add}
 use Rattle.std.proofs.lemmas.List.{drop-append-le, drop_all}
-use Rattle.std.proofs.Math.Nat.{pow-suc}
+use Rattle.std.proofs.Math.Nat.{pow-le-pow_right, pow-suc}
 use Rattle.at_text.specs.Texts.{is_digit}
 use Rattle.at_fixed.specs.Numerals.{AreDigits}
-use Rattle.at_fixed.specs.NumberSoFar.{between, digits_behind, Keeps}
+use Rattle.at_fixed.specs.NumberSoFar.{between, digits_behind, Keeps, KeepsDigits}
 
 pub part-none : (w : List ℕ) (from : ℕ) → from ≤ length w → between w from from ≡ []
 part-none w from h = drop_all from (take from w) (omega (arith, length-take from w))
@@ -104,37 +104,60 @@ kept_more K (suc d) m next cut ds h e fits full =
     let P : ℕ → Type 0 = λ n. Keeps n (suc d) cut m in
     subst (Keeps next (suc d) cut) (sym (ap (digits_behind m) none)) (subst P (sym same) h)
 
--- digits are kept as long as there is room, and then dropped
-pub keeps_more : (K d m next : ℕ) (cut after : Bool) (ps qs : List ℕ) → Keeps K d cut m → next ≡ digits_behind K ps → next < 10 ^ 19 → (10 ^ 18 ≤ K → ps ≡ [])
-    → AreDigits qs → (0 < length qs → 10 ^ 18 ≤ next) → ((rest : ℕ) → cut ≡ nat_lt 0 rest → after ≡ nat_lt 0 (digits_behind rest qs))
-    → Keeps next (d + length qs) after (digits_behind m (ps ++ qs))
-keeps_more K d m next cut after ps qs h e fits none are_digits full cuts =
-    let first : Keeps next d cut (digits_behind m ps) = kept_more K d m next cut ps h e fits none in
-    subst (Keeps next (d + length qs) after) (sym (behind-both m ps qs))
-    (dropped_more next d (digits_behind m ps) cut after qs first are_digits full (cuts first.rest first.cut))
+-- digits of a text that are all kept
+pub run_whole : (w : List ℕ) (from stop K d m next : ℕ) (cut : Bool) → KeepsDigits w from stop K next → Keeps K d cut m → Keeps next d cut (digits_behind m (between w from stop))
+run_whole w from stop K d m next cut run h =
+    kept_more K d m next cut (between w from stop) h run.value run.fits (λ big. ap (between w from) (run.full big) ∙ part-none w from (omega (arith, run.order, run.within)))
 
--- the same over the bytes of a text: digits are kept up to `stop`, and dropped from there on
-pub run_keeps : (w : List ℕ) (from stop to K d m next : ℕ) (cut after : Bool) → from ≤ stop → stop ≤ to → to ≤ length w
-    → Keeps K d cut m → next ≡ digits_behind K (between w from stop) → next < 10 ^ 19 → (10 ^ 18 ≤ K → stop ≡ from)
+-- digits are kept as long as there is room, up to `stop`, and dropped from there on
+pub run_keeps : (w : List ℕ) (from stop to K d m next : ℕ) (cut after : Bool) → KeepsDigits w from stop K next → stop ≤ to → to ≤ length w → Keeps K d cut m
     → AreDigits (between w stop to) → (stop < length w → is_digit (slice_index w stop) ≡ true → 10 ^ 18 ≤ next)
     → ((rest : ℕ) → cut ≡ nat_lt 0 rest → after ≡ nat_lt 0 (digits_behind rest (between w stop to)))
     → Keeps next (d + (to - stop)) after (digits_behind m (between w from to))
-run_keeps w from stop to K d m next cut after order more within h e fits full are_digits stops cuts =
-    let count : length (between w stop to) ≡ to - stop = omega (arith, part-length w stop to more within) in
-    let none : 10 ^ 18 ≤ K → between w from stop ≡ [] = λ big. ap (between w from) (full big) ∙ part-none w from (omega arith) in
-    let room : 0 < length (between w stop to) → 10 ^ 18 ≤ next = λ some.
+run_keeps w from stop to K d m next cut after run more within h are_digits stops cuts =
+    let front : List ℕ = between w from stop in let back : List ℕ = between w stop to in
+    let count : length back ≡ to - stop = omega (arith, part-length w stop to more within) in
+    let first : Keeps next d cut (digits_behind m front) = run_whole w from stop K d m next cut run h in
+    let room : 0 < length back → 10 ^ 18 ≤ next = λ some.
     let before : stop < to = omega (arith, count, some) in
-    let inside : stop < length w = omega (arith, before, within) in
-    stops inside (part-first w stop to before within are_digits) in
-    let whole : between w from to ≡ between w from stop ++ between w stop to = part-part w from stop to order more within in
-    let all : Keeps next (d + length (between w stop to)) after (digits_behind m (between w from stop ++ between w stop to)) =
-    keeps_more K d m next cut after (between w from stop) (between w stop to) h e fits none are_digits room cuts in
+    stops (omega (arith, before, within)) (part-first w stop to before within are_digits) in
+    let value : digits_behind m (between w from to) ≡ digits_behind (digits_behind m front) back = ap (digits_behind m) (part-part w from stop to run.order more within) ∙ behind-both m front back in
+    let all : Keeps next (d + length back) after (digits_behind (digits_behind m front) back) = dropped_more next d (digits_behind m front) cut after back first are_digits room (cuts first.rest first.cut) in
     let P : ℕ → Type 0 = λ n. Keeps next (d + n) after (digits_behind m (between w from to)) in
-    subst P count (subst (λ x. Keeps next (d + length (between w stop to)) after (digits_behind m x)) (sym whole) all)
+    subst P count (subst (Keeps next (d + length back) after) (sym value) all)
 
--- the same where all of them are kept
-pub run_whole : (w : List ℕ) (from stop K d m next : ℕ) (cut : Bool) → from ≤ stop → stop ≤ length w
-    → Keeps K d cut m → next ≡ digits_behind K (between w from stop) → next < 10 ^ 19 → (10 ^ 18 ≤ K → stop ≡ from)
-    → Keeps next d cut (digits_behind m (between w from stop))
-run_whole w from stop K d m next cut order within h e fits full =
-    kept_more K d m next cut (between w from stop) h e fits (λ big. ap (between w from) (full big) ∙ part-none w from (omega arith))
+-- nothing is kept yet
+pub keeps_none : (w : List ℕ) (from before : ℕ) → from ≤ length w → before < 10 ^ 19 → KeepsDigits w from from before before
+keeps_none w from before within fits =
+    let none : between w from from ≡ [] = part-none w from within in
+    record { order = omega arith; within = within; digits = rw none tt; value = sym (ap (digits_behind before) none); fits = fits; full = λ _. refl }
+
+-- digits behind those that were kept
+pub keeps_both : (w : List ℕ) (from mid to before kept next : ℕ) → KeepsDigits w from mid before kept → KeepsDigits w mid to kept next → KeepsDigits w from to before next
+keeps_both w from mid to before kept next h k =
+    let first : List ℕ = between w from mid in let second : List ℕ = between w mid to in
+    let whole : between w from to ≡ first ++ second = part-part w from mid to h.order k.order k.within in
+    record {
+      order = omega (arith, h.order, k.order);
+      within = k.within;
+      digits = rw whole (digits-both first second h.digits k.digits);
+      value = k.value ∙ (ap (λ n. digits_behind n second) h.value ∙ (sym (behind-both before first second) ∙ ap (digits_behind before) (sym whole)));
+      fits = k.fits;
+      full = λ big.
+          let at : mid ≡ from = h.full big in
+          let same : kept ≡ before = h.value ∙ ap (digits_behind before) (ap (between w from) at ∙ part-none w from (omega (arith, h.order, h.within))) in
+          k.full (omega (arith, same, big)) ∙ at;
+    }
+
+-- ---- how large what is kept may be
+
+pub room_more : (n k l : ℕ) → n < 10 ^ k → k ≤ l → n < 10 ^ l
+room_more n k l small more = let ten : 0 < 10 = lit< tt in let least : 10 ^ k ≤ 10 ^ l = pow-le-pow_right ten more in omega (arith, small, least)
+
+pub kept_small : (w : List ℕ) (from to before kept k : ℕ) → from ≤ to → to ≤ length w → AreDigits (between w from to) → kept ≡ digits_behind before (between w from to) → before < 10 ^ k → kept < 10 ^ (k + (to - from))
+kept_small w from to before kept k order within digits value small =
+    let ds : List ℕ = between w from to in
+    let count : length ds ≡ to - from = omega (arith, part-length w from to order within) in
+    let below : digits_behind before ds < 10 ^ k * 10 ^ length ds = behind_small before (10 ^ k) ds small digits in
+    let top : 10 ^ k * 10 ^ length ds ≡ 10 ^ (k + (to - from)) = ap (λ n. 10 ^ k * 10 ^ n) count ∙ sym (pow-add 10 k (to - from)) in
+    subst (λ n. kept < n) top (subst (λ n. n < 10 ^ k * 10 ^ length ds) (sym value) below)

@@ -3,16 +3,16 @@
 use Rattle.std.proofs.Common.{◌≡◌, ℕ, zero, suc, ◌+◌, ◌-◌, ◌*◌, ◌/◌, ◌%◌, ◌^◌, ◌<◌, ◌≤◌, List, [], ◌∷◌, ◌++◌, length, take, drop, map, fold, slice_index, replicate, bit_and, inl, inr, true, refl, sym, ◌∙◌, ap, subst, arith, lit<, get_or, Fits, w8, add-zero, length-take, length-drop, length-append, take-take}
 use Rattle.std.proofs.lemmas.List.{drop-take, get_or-drop, length-map, length-replicate}
 use Rattle.std.specs.List.{AllByRecursion}
-use Rattle.std.proofs.lemmas.Bool.{cases_lt}
+use Rattle.std.proofs.lemmas.Bool.{cases_eq, cases_lt}
 use Rattle.std.proofs.lemmas.Nat.{and_mask, and_le_l, pow-add, pow_pos}
-use Rattle.std.proofs.Math.Nat.{mod-eq_of_lt, add-mul-mod_self_left, mul-lt-mul_of_pos_right, mul-le-mul_right, pow-le-pow_right}
+use Rattle.std.proofs.Math.Nat.{mod-eq_of_lt, add-mul-mod_self_left, mul-lt-mul_of_pos_right}
 use lib.Lanes.{number_l}
 use Rattle.std.proofs.lemmas.Nat.Bits.{same_from_bits, bit_at_and, bit_at_cat_low, bit_at_cat_high}
 use Rattle.std.specs.Int.Bits.{and_zero_r}
 use Rattle.at_text.specs.Texts.{is_digit}
 use Rattle.at_fixed.specs.Numerals.{AreDigits}
-use Rattle.at_fixed.specs.NumberSoFar.{between, digits_behind}
-use Rattle.at_fixed.proofs.DigitParts.{part-none, part-more, part-part, part-length, digits-more, digits-both, behind-both, behind_split, behind_small}
+use Rattle.at_fixed.specs.NumberSoFar.{between, digits_behind, KeepsDigits}
+use Rattle.at_fixed.proofs.DigitParts.{part-none, part-more, part-length, digits-more, behind_split, kept_small, room_more}
 use Rattle.at_fixed.specs.Eights.{eight_bytes, digits_in, pairs_in, fours_in, eights_in, folded}
 
 -- ---- masks, part by part
@@ -98,19 +98,11 @@ abbrev pub value : List ℕ → ℕ
 value es = fold (λ m e. 10 * m + e) 0 es
 
 fold_all : (es : List ℕ) → length es ≡ 8 → Below 10 es → eights_in (fours_in (pairs_in (number_l 256 es))) ≡ value es
-fold_all [] n _ = absurd (omega (arith, n))
-fold_all (a ∷ []) n _ = absurd (omega (arith, n))
-fold_all (a ∷ b ∷ []) n _ = absurd (omega (arith, n))
-fold_all (a ∷ b ∷ c ∷ []) n _ = absurd (omega (arith, n))
-fold_all (a ∷ b ∷ c ∷ d ∷ []) n _ = absurd (omega (arith, n))
-fold_all (a ∷ b ∷ c ∷ d ∷ e ∷ []) n _ = absurd (omega (arith, n))
-fold_all (a ∷ b ∷ c ∷ d ∷ e ∷ f ∷ []) n _ = absurd (omega (arith, n))
-fold_all (a ∷ b ∷ c ∷ d ∷ e ∷ f ∷ g ∷ []) n _ = absurd (omega (arith, n))
 fold_all (a ∷ b ∷ c ∷ d ∷ e ∷ f ∷ g ∷ h ∷ []) n (ha, (hb, (hc, (hd, (he, (hf, (hg, (hh, _)))))))) =
     ap (λ n. eights_in (fours_in n)) (fold_pairs a b c d e f g h (omega arith) (omega arith) (omega arith) (omega arith) (omega arith) (omega arith) (omega arith) (omega arith))
     ∙ (ap eights_in (fold_fours (10 * a + b) (10 * c + d) (10 * e + f) (10 * g + h) (omega arith) (omega arith) (omega arith) (omega arith))
     ∙ (fold_eights (100 * (10 * a + b) + (10 * c + d)) (100 * (10 * e + f) + (10 * g + h)) (omega arith) (omega arith) ∙ omega arith))
-fold_all (a ∷ b ∷ c ∷ d ∷ e ∷ f ∷ g ∷ h ∷ i ∷ es) n _ = absurd (omega (arith, n))
+fold_all _ n _ = absurd (omega (arith, n))
 
 -- the low four bits of each byte
 nibbles : (bs : List ℕ) → Below 256 bs → bit_and (number_l 256 bs) (number_l 256 (replicate (length bs) 15)) ≡ number_l 256 (map (λ b. b % 16) bs)
@@ -206,15 +198,8 @@ folded_is n bs few long h are_digits =
 -- ---- the bytes of a text
 
 eight_of : (xs : List ℕ) → 8 ≤ length xs → eight_bytes xs 0 ≡ number_l 256 (take 8 xs)
-eight_of [] n = absurd (omega (arith, n))
-eight_of (a ∷ []) n = absurd (omega (arith, n))
-eight_of (a ∷ b ∷ []) n = absurd (omega (arith, n))
-eight_of (a ∷ b ∷ c ∷ []) n = absurd (omega (arith, n))
-eight_of (a ∷ b ∷ c ∷ d ∷ []) n = absurd (omega (arith, n))
-eight_of (a ∷ b ∷ c ∷ d ∷ e ∷ []) n = absurd (omega (arith, n))
-eight_of (a ∷ b ∷ c ∷ d ∷ e ∷ f ∷ []) n = absurd (omega (arith, n))
-eight_of (a ∷ b ∷ c ∷ d ∷ e ∷ f ∷ g ∷ []) n = absurd (omega (arith, n))
 eight_of (a ∷ b ∷ c ∷ d ∷ e ∷ f ∷ g ∷ h ∷ xs) n = omega arith
+eight_of _ n = absurd (omega (arith, n))
 
 at_place : (w : List ℕ) (at : ℕ) → eight_bytes w at ≡ eight_bytes (drop at w) 0
 at_place w at = rw (get_or-drop at w 0 0, get_or-drop at w 1 0, get_or-drop at w 2 0, get_or-drop at w 3 0, get_or-drop at w 4 0, get_or-drop at w 5 0, get_or-drop at w 6 0, get_or-drop at w 7 0, add-zero) refl
@@ -247,64 +232,21 @@ eight_digits w at count word result room fits few are_digits e r =
 
 -- ---- digits kept behind those of before
 
--- what is kept after so many further digits
-pub record EightKept (w : List ℕ) (from to before next : ℕ) : Type 0 where
-  pub digits : AreDigits (between w from to)
-  pub value : next ≡ digits_behind before (between w from to)
-  pub full : 10 ^ 18 ≤ before → to ≡ from
-  pub fits : next < 10 ^ 19
-
-pub kept_both : (w : List ℕ) (from mid to before kept next : ℕ) → from ≤ mid → mid ≤ to → to ≤ length w → AreDigits (between w from mid) → AreDigits (between w mid to)
-    → kept ≡ digits_behind before (between w from mid) → next ≡ digits_behind kept (between w mid to)
-    → AreDigits (between w from to) × (next ≡ digits_behind before (between w from to))
-kept_both w from mid to before kept next order more within first second e f =
-    let whole : between w from to ≡ between w from mid ++ between w mid to = part-part w from mid to order more within in (
-      subst AreDigits (sym whole) (digits-both (between w from mid) (between w mid to) first second),
-      f ∙ (ap (λ n. digits_behind n (between w mid to)) e ∙ (sym (behind-both before (between w from mid) (between w mid to)) ∙ ap (digits_behind before) (sym whole))),
-    )
-
-few_digits : (from end count before kept : ℕ) → (10 ^ 18 ≤ before → end ≡ from) → (end ≡ from → kept ≡ before) → kept < 10 ^ (19 - count) → 10 ^ 18 ≤ before → end + count ≡ from
-few_digits from end zero before kept full none room big = omega (arith, full big)
-few_digits from end (suc count) before kept full none room big =
-    let ten : 0 < 10 = lit< tt in
-    let fewer : 19 - suc count ≤ 18 = omega arith in
-    let most : 10 ^ (19 - suc count) ≤ 10 ^ 18 = pow-le-pow_right ten fewer in
-    absurd (omega (arith, none (full big), most, room, big))
-
-pub eight_kept : (w : List ℕ) (from end count before kept number power : ℕ) → from ≤ end → end + 8 ≤ length w → count ≤ 8
-    → AreDigits (between w from end) → kept ≡ digits_behind before (between w from end) → (10 ^ 18 ≤ before → end ≡ from)
-    → AreDigits (between w end (end + count)) → number ≡ digits_behind 0 (between w end (end + count)) → power ≡ 10 ^ count → kept < 10 ^ (19 - count)
-    → EightKept w from (end + count) before (kept * power + number)
-eight_kept w from end count before kept number power order inside few first e full second v p room =
-    let ds : List ℕ = between w end (end + count) in
-    let long : length ds ≡ count = omega (arith, part-length w end (end + count) (omega arith) (omega arith)) in
-    let none : kept ≡ kept + 0 = omega arith in
-    let behind : digits_behind kept ds ≡ kept * 10 ^ length ds + digits_behind 0 ds = ap (λ n. digits_behind n ds) none ∙ behind_split kept 0 ds in
-    let power_is : power ≡ 10 ^ length ds = p ∙ ap (λ k. 10 ^ k) (sym long) in
-    let next : kept * power + number ≡ digits_behind kept ds = rw (power_is, v) (sym behind) in
-    let one : 0 < 1 = lit< tt in
-    let small : digits_behind 0 ds < 1 * 10 ^ length ds = behind_small 0 1 ds one second in
-    let below : number < 10 ^ count = subst (λ k. number < 10 ^ k) long (rw v (omega (arith, small))) in
-    let total : 19 - count + count ≡ 19 = omega arith in
-    let top : 10 ^ (19 - count) * 10 ^ count ≡ 10 ^ 19 = sym (pow-add 10 (19 - count) count) ∙ ap (λ n. 10 ^ n) total in
-    let more : (kept + 1) * 10 ^ count ≤ 10 ^ (19 - count) * 10 ^ count = mul-le-mul_right (10 ^ count) (omega arith) in
-    let fits : kept * power + number < 10 ^ 19 = rw p (grind (arith, below, more, top)) in
-    let same : end ≡ from → kept ≡ before = λ at. e ∙ (ap (λ k. digits_behind before (between w from k)) at ∙ ap (digits_behind before) (part-none w from (omega arith))) in
-    let both = kept_both w from end (end + count) before kept (kept * power + number) order (omega arith) (omega arith) first second e next in
-    record { digits = both.0; value = both.1; full = few_digits from end count before kept full same room; fits = fits }
-
--- the first eight bytes
-pub first_kept : (w : List ℕ) (from count before number power : ℕ) → from + 8 ≤ length w → count ≤ 8 → AreDigits (between w from (from + count))
+-- so many digits whose number is joined to the one before
+pub next_kept : (w : List ℕ) (from count before number power : ℕ) → from + 8 ≤ length w → count ≤ 8 → AreDigits (between w from (from + count))
     → number ≡ digits_behind 0 (between w from (from + count)) → power ≡ 10 ^ count → before < 10 ^ (19 - count)
-    → EightKept w from (from + count) before (before * power + number)
-first_kept w from count before number power inside few are_digits v p room =
-    let none : between w from from ≡ [] = part-none w from (omega arith) in
-    eight_kept w from from count before before number power (omega arith) inside few (subst AreDigits (sym none) tt) (sym (ap (digits_behind before) none)) (λ big. refl)
-    are_digits v p room
-
-pub room_by : (before count : ℕ) → count ≤ 8 → before < 10000000000 → before < 10 ^ (19 - count)
-room_by before count few small =
-    let ten : 0 < 10 = lit< tt in
-    let more : 11 ≤ 19 - count = omega arith in
-    let least : 10 ^ 11 ≤ 10 ^ (19 - count) = pow-le-pow_right ten more in
-    omega (arith, least, small)
+    → KeepsDigits w from (from + count) before (before * power + number)
+next_kept w from count before number power inside few are_digits v p room =
+    let to : ℕ = from + count in let ds : List ℕ = between w from to in
+    let within : to ≤ length w = omega (arith, inside, few) in
+    let long : length ds ≡ count = omega (arith, part-length w from to (omega arith) within) in
+    let power_is : power ≡ 10 ^ length ds = p ∙ ap (λ k. 10 ^ k) (sym long) in
+    let value : before * power + number ≡ digits_behind before ds = rw (power_is, v) (sym (behind_split before 0 ds) ∙ ap (λ n. digits_behind n ds) (omega arith)) in
+    record {
+      order = omega arith;
+      within = within;
+      digits = are_digits;
+      value = value;
+      fits = room_more (before * power + number) (19 - count + (to - from)) 19 (kept_small w from to before (before * power + number) (19 - count) (omega arith) within are_digits value room) (omega (arith, few));
+      full = λ big. elim (cases_eq count 0) [ inl none ↦ omega (arith, none) | inr some ↦ absurd (omega (arith, big, room_more before (19 - count) 18 room (omega (arith, some)))) ];
+    }

@@ -209,3 +209,10 @@ whole_by g w sign run h r =
       dropped = r.dropped;
       count = refl;
     }
+
+-- the same where there are some digits
+pub whole_led : (g : Notation) (w : List ℕ) (sign : Sign) (run : DigitsRun) → ReadsSign g w 0 sign → ReadsLead g w sign.end run → sign.end < run.end
+    → ReadsWhole g w (record { end = run.end; is_number = true; is_minus = sign.is_minus; digits = run.digits; fraction = 0 })
+whole_led g w sign run signs r some =
+    let P : Bool → Type 0 = λ z. ReadsWhole g w (record { end = run.end; is_number = z; is_minus = sign.is_minus; digits = run.digits; fraction = 0 }) in
+    subst P (lt-ltb sign.end run.end some) (whole_by g w sign run (signed_by g w sign signs) r)

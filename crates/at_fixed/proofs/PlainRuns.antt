@@ -1,32 +1,21 @@
 -- Digits that are read eight at a time, and all kept.
 -- For `leading_number`, `plain_len` and `plain_number`.
-use Rattle.std.proofs.Common.{◌≡◌, ◌==◌, not, IsTrue, slice_index, ◌^◌, ℕ, ◌+◌, true, false, arith, List, [], ◌∷◌, ◌++◌, ◌≤◌, ◌<◌, ◌-◌, ◌*◌, length, subst, sym, ap, ◌∙◌, lit<, pow-add}
-use Rattle.std.proofs.Math.Nat.{pow-le-pow_right}
+use Rattle.std.proofs.Common.{◌≡◌, ◌==◌, not, IsTrue, slice_index, ◌^◌, ℕ, ◌+◌, true, false, arith, List, [], ◌∷◌, ◌++◌, ◌≤◌, ◌<◌, ◌-◌, ◌*◌, length, subst, sym, ap, ◌∙◌, lit<}
 use Rattle.at_text.specs.Texts.{is_digit}
 use Rattle.at_fixed.specs.declared.digits.KeptRun.{KeptRun}
 use Rattle.at_fixed.specs.Numerals.{AreDigits}
-use Rattle.at_fixed.specs.NumberSoFar.{between}
-use Rattle.at_fixed.specs.Scans.{EndsRun, KeepsRun, KeepsTo}
-use Rattle.at_fixed.specs.NumberSoFar.{digits_behind}
-use Rattle.at_fixed.proofs.DigitParts.{behind-both, part-more, part-part, part-length, behind_small}
-use Rattle.at_fixed.proofs.EightDigits.{kept_both}
+use Rattle.at_fixed.specs.NumberSoFar.{between, digits_behind, KeepsDigits}
+use Rattle.at_fixed.specs.Scans.{EndsRun, KeepsRun}
+use Rattle.at_fixed.proofs.DigitParts.{behind-both, keeps_both, kept_small, part-more, part-part}
 
 -- eight digits, and the further ones behind them
 pub both_runs : (w : List ℕ) (from before : ℕ) (first second : KeptRun) → KeepsRun w from before first → first.is_whole ≡ false → KeepsRun w first.end first.kept second → second.is_whole ≡ true
     → KeepsRun w from before second
-both_runs w from before first second h more k whole =
-    let eight : first.end ≡ from + 8 = h.filled more in
-    let (digits, value) = kept_both w from first.end second.end before first.kept second.kept h.order k.order k.within h.digits k.digits h.value k.value in
-    record {
-      order = omega (arith, h.order, k.order);
-      within = k.within;
-      digits = digits;
-      value = value;
-      fits = k.fits;
-      full = λ big. let same : first.end ≡ from = h.full big in absurd (omega (arith, eight, same));
-      stops = k.stops;
-      filled = λ e. absurd (cc);
-    }
+both_runs w from before first second h more k whole = record {
+  keeps = keeps_both w from first.end second.end before first.kept second.kept h.keeps k.keeps;
+  stops = k.stops;
+  filled = λ e. absurd (cc);
+}
 
 -- ---- digits whose end is known
 
@@ -37,27 +26,15 @@ digits_split (d ∷ ds) es (first, h) = let (front, back) = digits_split ds es h
 pub first_digits : (w : List ℕ) (from mid to : ℕ) → from ≤ mid → mid ≤ to → to ≤ length w → AreDigits (between w from to) → AreDigits (between w from mid) × AreDigits (between w mid to)
 first_digits w from mid to order more within h = digits_split (between w from mid) (between w mid to) (subst AreDigits (part-part w from mid to order more within) h)
 
--- digits behind those that were kept
-pub kept_on : (w : List ℕ) (from mid to before kept next : ℕ) → from < mid → mid ≤ to → to ≤ length w → AreDigits (between w from to) → KeepsTo w from mid before kept → KeepsTo w mid to kept next → KeepsTo w from to before next
-kept_on w from mid to before kept next order more within digits h k =
-    let (front, back) = first_digits w from mid to (omega (arith, order)) more within digits in
-    record {
-      value = (kept_both w from mid to before kept next (omega (arith, order)) more within front back h.value k.value).1;
-      full = λ big. let same : mid ≡ from = h.full big in absurd (omega (arith, order, same));
-      fits = k.fits;
-    }
+-- more than eight digits, in two parts
+pub long_parts : (w : List ℕ) (from to : ℕ) → from + 8 < to → to ≤ length w → AreDigits (between w from to)
+    → AreDigits (between w from (from + 8)) × AreDigits (between w (from + 8) (from + 8 + (to - from - 8)))
+long_parts w from to many within digits =
+    let place : from + 8 + (to - from - 8) ≡ to = omega (arith, many) in
+    rw place (first_digits w from (from + 8) to (omega arith) (omega (arith, many)) within digits)
 
-pub run_to : (w : List ℕ) (from to before kept : ℕ) → EndsRun w from to → KeepsTo w from to before kept → KeepsRun w from before (record { end = to; kept = kept; is_whole = true })
-run_to w from to before kept h k = record {
-  order = h.order;
-  within = omega (arith, h.within);
-  digits = h.digits;
-  value = k.value;
-  fits = k.fits;
-  full = k.full;
-  stops = λ _ _. h.stops;
-  filled = λ e. absurd (cc);
-}
+pub run_to : (w : List ℕ) (from to before kept : ℕ) → EndsRun w from to → KeepsDigits w from to before kept → KeepsRun w from before (record { end = to; kept = kept; is_whole = true })
+run_to w from to before kept h k = record { keeps = k; stops = λ _ _. h.stops; filled = λ e. absurd (cc) }
 
 digit_above : (b : ℕ) → IsTrue (is_digit b) → IsTrue (not (b == 0x30)) → 0 < b - 0x30
 digit_above b h k = grind (arith, h, k)
@@ -74,17 +51,6 @@ above_zero w from to order within digits last =
     omega (arith, value, digit_above b is last)
 
 -- ---- how large what is kept may be
-
-pub room_more : (n k l : ℕ) → n < 10 ^ k → k ≤ l → n < 10 ^ l
-room_more n k l small more = let ten : 0 < 10 = lit< tt in let least : 10 ^ k ≤ 10 ^ l = pow-le-pow_right ten more in omega (arith, small, least)
-
-pub kept_small : (w : List ℕ) (from to before kept k : ℕ) → from ≤ to → to ≤ length w → AreDigits (between w from to) → kept ≡ digits_behind before (between w from to) → before < 10 ^ k → kept < 10 ^ (k + (to - from))
-kept_small w from to before kept k order within digits value small =
-    let ds : List ℕ = between w from to in
-    let count : length ds ≡ to - from = omega (arith, part-length w from to order within) in
-    let below : digits_behind before ds < 10 ^ k * 10 ^ length ds = behind_small before (10 ^ k) ds small digits in
-    let top : 10 ^ k * 10 ^ length ds ≡ 10 ^ (k + (to - from)) = ap (λ n. 10 ^ k * 10 ^ n) count ∙ sym (pow-add 10 k (to - from)) in
-    subst (λ n. kept < n) top (subst (λ n. n < 10 ^ k * 10 ^ length ds) (sym value) below)
 
 -- how large the number is that the first of some digits spell
 pub first_small : (w : List ℕ) (from count to number : ℕ) → EndsRun w from to → from + count ≤ to → number ≡ digits_behind 0 (between w from (from + count)) → number < 10 ^ count

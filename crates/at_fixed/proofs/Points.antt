@@ -8,10 +8,10 @@ use Rattle.at_fixed.specs.declared.notation.Notation.TheVariants.{Json, Wkt}
 use Rattle.at_fixed.specs.declared.digits.DigitsRun.{DigitsRun}
 use Rattle.at_fixed.specs.declared.scanning.Mantissa.{Mantissa}
 use Rattle.at_fixed.specs.Numerals.{AreDigits, AreSomeDigits, AreWktDigits, digits_value}
-use Rattle.at_fixed.specs.NumberSoFar.{between, digits_behind, Keeps}
+use Rattle.at_fixed.specs.NumberSoFar.{between, digits_behind, Keeps, KeepsDigits}
 use Rattle.at_fixed.specs.States.{State, Reads, point, fraction, behind_digits, after_fraction, step, accepts}
 use Rattle.at_fixed.specs.Scans.{IsSignOf, IsWholeOf, after_lead, ReadsWhole, may_take_point, is_wkt, IsFrontOf, after_mantissa, ReadsMantissa}
-use Rattle.at_fixed.proofs.DigitParts.{part-place, part-cons, part-length, behind-both}
+use Rattle.at_fixed.proofs.DigitParts.{part-place, part-cons, part-length, behind-both, run_whole}
 use Rattle.at_fixed.proofs.Phases.{reads_byte, reads_digits, fraction_stays}
 
 -- ---- tests
@@ -180,3 +180,12 @@ fraction_by g w whole run is_number h may order within digits stops fits dropped
       fits = fits;
       count = omega arith;
     }
+
+-- the same where there are some digits, all of which are kept
+pub kept_front : (g : Notation) (w : List ℕ) (whole : Mantissa) (end kept : ℕ) → ReadsWhole g w whole → IsTrue (may_take_point g w whole) → KeepsDigits w (whole.end + 1) end whole.digits.kept kept
+    → (end < length w → is_digit (slice_index w end) ≡ false) → whole.end + 1 < end
+    → ReadsMantissa g w (record { end = end; is_number = true; is_minus = whole.is_minus; digits = record { kept = kept; dropped = whole.digits.dropped; is_cut = whole.digits.is_cut }; fraction = end - (whole.end + 1) })
+kept_front g w whole end kept h may run stops some =
+    fraction_by g w whole (record { end = end; digits = record { kept = kept; dropped = whole.digits.dropped; is_cut = whole.digits.is_cut } }) true h may run.order run.within run.digits stops run.fits
+    (omega (arith, h.dropped, run.order)) (λ m k. run_whole w (whole.end + 1) end whole.digits.kept whole.digits.dropped m kept whole.digits.is_cut run k)
+    (sym (ap (λ b. b || (whole.is_number && is_wkt g)) (lt-ltb (whole.end + 1) end some)))

@@ -1,6 +1,6 @@
 -- How far plain numbers reach, where their digits are told by a mask and not read.
 -- For `leading_number`, `plain_len` and `plain_number`.
-use Rattle.std.proofs.Common.{◌≡◌, ℕ, ◌+◌, ◌-◌, ◌*◌, ◌^◌, ◌<◌, ◌≤◌, Bool, true, false, nat_lt, ◌==◌, ◌&&◌, ◌||◌, List, ◌++◌, length, slice_index, Ok, take, ℤ, pos, neg_ℤ, if◌then◌else◌, inl, refl, sym, ap, ◌∙◌, subst, arith, lit<, pow-add}
+use Rattle.std.proofs.Common.{◌≡◌, ℕ, ◌+◌, ◌-◌, ◌*◌, ◌^◌, ◌<◌, ◌≤◌, Bool, true, false, nat_lt, ◌==◌, ◌&&◌, List, ◌++◌, length, slice_index, Ok, take, ℤ, pos, neg_ℤ, if◌then◌else◌, inl, refl, sym, ap, ◌∙◌, subst, arith, lit<, pow-add}
 use Rattle.std.proofs.lemmas.Bool.{lt-ltb}
 use Rattle.at_fixed.specs.declared.number_ends.NumberEnd.{NumberEnd}
 use Rattle.at_fixed.specs.declared.notation.Notation.{Notation}
@@ -9,18 +9,18 @@ use Rattle.at_fixed.specs.declared.rounding.Coords.TheVariants.{Round}
 use Rattle.at_fixed.specs.declared.scanning.Mantissa.{Mantissa}
 use Rattle.at_fixed.specs.declared.scanning.Sign.{Sign}
 use Rattle.at_fixed.specs.declared.short_numbers.Whole.{Whole}
-use Rattle.at_fixed.specs.NumberSoFar.{between, digits_behind, Keeps}
-use Rattle.at_fixed.specs.Scans.{EndsRun, IsNumberEnd, IsKeptFront, IsLead, IsSizedIn, IsTenth, ReadsMantissa, ReadsSign, ReadsWhole, SurelyFits, is_wkt, may_take_point}
+use Rattle.at_fixed.specs.NumberSoFar.{between, digits_behind, Keeps, KeepsDigits}
+use Rattle.at_fixed.specs.Scans.{EndsRun, IsNumberEnd, IsKeptFront, IsLead, IsSizedIn, IsTenth, ReadsMantissa, ReadsSign, ReadsWhole, SurelyFits}
 use Rattle.at_text.specs.Prefix.{TakesLongest}
 use Rattle.at_fixed.specs.Fixed.{largest}
 use Rattle.at_fixed.specs.Numerals.{AreDigits, NumberOf}
 use Rattle.at_fixed.specs.Scanned.{IsPlain, IsValued}
 use Rattle.at_fixed.specs.States.{is_letter}
-use Rattle.at_fixed.proofs.DigitParts.{behind-both, behind_small, behind_split, part-length, part-part, run_whole}
+use Rattle.at_fixed.proofs.DigitParts.{behind-both, behind_small, behind_split, kept_small, part-length, part-part, room_more, run_whole}
 use Rattle.at_fixed.proofs.Endings.{longest_by}
-use Rattle.at_fixed.proofs.Phases.{signed_by, whole_by}
-use Rattle.at_fixed.proofs.PlainRuns.{first_digits, kept_small, room_more}
-use Rattle.at_fixed.proofs.Points.{fraction_by, plain_by}
+use Rattle.at_fixed.proofs.Phases.{whole_led}
+use Rattle.at_fixed.proofs.PlainRuns.{first_digits}
+use Rattle.at_fixed.proofs.Points.{kept_front, plain_by}
 use Rattle.at_fixed.proofs.Spelled.{fixed_by}
 use Rattle.at_fixed.proofs.Valued.{tenth_ok, valued, valued_whole, whole_ok}
 
@@ -49,17 +49,22 @@ module _ (g : Notation) (w : List ℕ) (sign : Sign) (point : ℕ) (signs : Read
 
   lead_reads : point ≤ 19 → ReadsWhole g w lead_read
   lead_reads few =
-      let within : point ≤ length w = omega (arith, run.within) in
-      let fits : lead_value < 10 ^ 19 = room_more lead_value (0 + (point - sign.end)) 19 lead_small (omega (arith, few)) in
-      let P : Bool → Type 0 = λ z. ReadsWhole g w (record { end = point; is_number = z; is_minus = sign.is_minus; digits = record { kept = lead_value; dropped = 0; is_cut = false }; fraction = 0 }) in
-      subst P (lt-ltb sign.end point some) (whole_by g w sign (record { end = point; digits = record { kept = lead_value; dropped = 0; is_cut = false } }) (signed_by g w sign signs) (record {
+      let keeps : KeepsDigits w sign.end point 0 lead_value = record {
         order = run.order;
-        within = within;
+        within = omega (arith, run.within);
         digits = run.digits;
-        keeps = run_whole w sign.end point 0 0 0 lead_value false run.order within nothing_kept refl fits (λ big. absurd (omega (arith, big)));
+        value = refl;
+        fits = room_more lead_value (0 + (point - sign.end)) 19 lead_small (omega (arith, few));
+        full = λ big. absurd (omega (arith, big));
+      } in
+      whole_led g w sign (record { end = point; digits = record { kept = lead_value; dropped = 0; is_cut = false } }) signs (record {
+        order = run.order;
+        within = keeps.within;
+        digits = run.digits;
+        keeps = run_whole w sign.end point 0 0 0 lead_value false keeps nothing_kept;
         dropped = omega arith;
         cases = lead;
-      }))
+      }) some
 
   -- a number without a point
   pub plain_front : point ≤ 19 → (slice_index w point == 0x2E) ≡ false → IsKeptFront g w lead_read
@@ -97,24 +102,23 @@ module _ (g : Notation) (w : List ℕ) (sign : Sign) (point : ℕ) (signs : Read
     value_small : value < 10 ^ ((0 + (point - sign.end)) + (number.end - (point + 1)))
     value_small = kept_small w (point + 1) number.end lead_value value (0 + (point - sign.end)) behind.order (omega (arith, behind.within)) behind.digits refl lead_small
 
-    fits : value < 10 ^ 19
-    fits = room_more value ((0 + (point - sign.end)) + (number.end - (point + 1))) 19 value_small (omega (arith, count, few, some))
-
-    -- there are fewer than nineteen digits before the point, so what they spell has room for another
-    lead_room : lead_value < 10 ^ 18
-    lead_room = room_more lead_value (0 + (point - sign.end)) 18 lead_small (omega (arith, count, few, more))
+    keeps : KeepsDigits w (point + 1) number.end lead_value value
+    keeps = record {
+      order = behind.order;
+      within = omega (arith, behind.within);
+      digits = behind.digits;
+      value = refl;
+      fits = room_more value ((0 + (point - sign.end)) + (number.end - (point + 1))) 19 value_small (omega (arith, count, few, some));
+      full = λ big. absurd (omega (arith, big, room_more lead_value (0 + (point - sign.end)) 18 lead_small (omega (arith, count, few, more))));
+    }
 
     abbrev front : Mantissa
     front = record { end = number.end; is_number = true; is_minus = sign.is_minus; digits = record { kept = value; dropped = 0; is_cut = false }; fraction = number.end - (point + 1) }
 
     reads : (slice_index w point == 0x2E) ≡ true → ReadsMantissa g w front
     reads stands =
-        let inside : point < length w = run.within in
-        let may : may_take_point g w lead_read ≡ true = point_taken (nat_lt point (length w)) (slice_index w point == 0x2E) (lt-ltb point (length w) inside) stands in
-        fraction_by g w lead_read (record { end = number.end; digits = record { kept = value; dropped = 0; is_cut = false } }) true (lead_reads (omega (arith, count, few, more)))
-        may behind.order (omega (arith, behind.within)) behind.digits (λ _. behind.stops) fits (omega arith)
-        (λ m h. run_whole w (point + 1) number.end lead_value 0 m value false behind.order (omega (arith, behind.within)) h refl fits (λ big. absurd (omega (arith, big, lead_room))))
-        (sym (ap (λ b. b || (true && is_wkt g)) (lt-ltb (point + 1) number.end (omega (arith, count, more))))) where
+        kept_front g w lead_read number.end value (lead_reads (omega (arith, count, few, more))) (point_taken (nat_lt point (length w)) (slice_index w point == 0x2E) (lt-ltb point (length w) run.within) stands)
+        keeps (λ _. behind.stops) (omega (arith, count, more)) where
           point_taken : (a b : Bool) → a ≡ true → b ≡ true → (a && (b && true)) ≡ true
           point_taken a b h k = rw (h, k) refl
 

@@ -14,9 +14,8 @@ use Rattle.at_fixed.specs.Numerals.{Numeral, fraction_text, numeral_text, IsNume
 use Rattle.at_fixed.specs.Fixed.{has_minus, largest, nearest, quotient, size_of, signed, fixed_of, mantissa, exponent_above, exponent_below, fraction_digits}
 use Rattle.at_fixed.specs.NumberSoFar.{Keeps}
 use Rattle.at_fixed.specs.Scans.{IsKeptFront, IsSizedIn, IsTenth, SurelyFits}
-use Rattle.at_fixed.proofs.DigitParts.{none_dropped}
+use Rattle.at_fixed.proofs.DigitParts.{none_dropped, room_more}
 use Rattle.at_fixed.proofs.Endings.{numeral_by}
-use Rattle.at_fixed.proofs.PlainRuns.{room_more}
 use Rattle.at_fixed.proofs.Quotients.{eq_false, lt_false, reduced_rounded, rounded_by, whole_quotient}
 use Rattle.at_fixed.proofs.Sizes.{near_by, pow_positive, rest_below, rest_some}
 

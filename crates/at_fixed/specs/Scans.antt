@@ -17,7 +17,7 @@ use Rattle.at_fixed.specs.declared.short_numbers.Whole.{Whole}
 use Rattle.at_fixed.specs.Numerals.{fraction_text, IsAtMostOneOf, AreDigits, AreSomeDigits, IsJsonWhole, AreWktDigits}
 use Rattle.at_fixed.specs.Numerals.{digits_value}
 use Rattle.at_fixed.specs.Fixed.{has_minus, largest, size_of}
-use Rattle.at_fixed.specs.NumberSoFar.{between, digits_behind, Keeps, SameOrHuge}
+use Rattle.at_fixed.specs.NumberSoFar.{between, Keeps, KeepsDigits, SameOrHuge}
 use Rattle.at_fixed.specs.States.{State, Reads, step, accepts, is_letter, is_lead_sign, after_fraction, after_whole}
 use Rattle.at_fixed.specs.States.{lone_point}
 
@@ -36,12 +36,7 @@ ReadsSign notation w from sign =
 -- all digits from a place on up to another, behind a number: what they spell is kept, and none stands there where the
 -- run is whole
 pub record KeepsRun (w : List ℕ) (from before : ℕ) (run : KeptRun) : Type 0 where
-  pub order : from ≤ run.end
-  pub within : run.end ≤ length w
-  pub digits : AreDigits (between w from run.end)
-  pub value : run.kept ≡ digits_behind before (between w from run.end)
-  pub fits : run.kept < 10 ^ 19
-  pub full : 10 ^ 18 ≤ before → run.end ≡ from
+  pub keeps : KeepsDigits w from run.end before run.kept
   pub stops : run.is_whole ≡ true → run.end < length w → is_digit (slice_index w run.end) ≡ false
   pub filled : run.is_whole ≡ false → run.end ≡ from + 8
 
@@ -57,12 +52,6 @@ pub record AreEnds (notation : Notation) (w : List ℕ) (ends : Ends) : Type 0 w
   pub sign : ReadsSign notation w 0 ends.sign
   pub lead : EndsRun w ends.sign.end ends.first
   pub behind : EndsRun w (ends.first + 1) ends.second
-
--- what is kept of the digits up to a place, behind a number
-pub record KeepsTo (w : List ℕ) (from to before kept : ℕ) : Type 0 where
-  pub value : kept ≡ digits_behind before (between w from to)
-  pub full : 10 ^ 18 ≤ before → to ≡ from
-  pub fits : kept < 10 ^ 19
 
 -- all digits from a place on, of which there are at most sixteen, behind a number with room for so many
 pub record KeepsFar (w : List ℕ) (from before room : ℕ) (run : KeptRun) : Type 0 where

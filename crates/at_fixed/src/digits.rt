@@ -1,10 +1,11 @@
 //! What is kept of decimal digits, read one by one.
 
 ghost use Rattle.std.specs.Prelude.{◌≡◌, ℕ, ◌+◌, ◌-◌, ◌^◌, ◌<◌, ◌≤◌, IsTrue, true, false, nat_lt, length};
-ghost use Rattle.std.specs.Prelude.{slice_index};
+ghost use Rattle.std.specs.Prelude.{slice_index, IfSome};
 ghost use Rattle.at_text.specs.Texts.{is_digit as digit_test};
 ghost use Rattle.at_fixed.specs.Numerals.{AreDigits};
-ghost use Rattle.at_fixed.specs.NumberSoFar.{between, digits_behind, Keeps, SameOrHuge};
+ghost use Rattle.at_fixed.specs.NumberSoFar.{between, digits_behind, Keeps, KeepsDigits, SameOrHuge};
+ghost use Rattle.at_fixed.specs.Scans.{KeepsRun};
 
 use crate::eights::leading_digits;
 use crate::powers::power_of_ten;
@@ -35,19 +36,22 @@ pub struct DigitsRun {
     pub digits: Digits,
 }
 
+/// Where digits that were kept end, and whether surely none stands there.
+#[derive(Clone, Copy)]
+pub struct KeptRun {
+    pub end: usize,
+    pub kept: u64,
+    pub is_whole: bool,
+}
+
 /// Reads digits one by one while there is room to keep them.
 #[inline(never)]
 pub fn keep_single_digits(text: &[u8], from: usize, before: u64) -> (usize, u64)
     requires from_within { from ≤ length text.now }
     requires before_fits { before < 10 ^ 19 }
-    ensures order { from ≤ result.0 }
-    ensures within { result.0 ≤ length text.now }
-    ensures digits { AreDigits (between text.now from result.0) }
-    ensures value { result.1 ≡ digits_behind before (between text.now from result.0) }
-    ensures fits { result.1 < 10 ^ 19 }
+    ensures keeps { KeepsDigits text.now from result.0 before result.1 }
     ensures stops { result.0 < length text.now → digit_test (slice_index text.now result.0) ≡ true
         → 10 ^ 18 ≤ result.1 }
-    ensures full { 10 ^ 18 ≤ before → result.0 ≡ from }
 {
     let mut kept = before;
     let mut end = from;
@@ -60,11 +64,28 @@ pub fn keep_single_digits(text: &[u8], from: usize, before: u64) -> (usize, u64)
 
 /// Whether so many further digits can be kept behind a number.
 #[inline(always)]
-pub fn has_room(before: u64, count: usize) -> bool
+fn has_room(before: u64, count: usize) -> bool
     requires { count ≤ 8 }
     ensures { IsTrue result → before < 10 ^ (19 - count) }
 {
     before < SMALL || before < power_of_ten(19 - count as u64)
+}
+
+/// Reads the digits that begin the next eight bytes, behind the number before them, where there is room to keep them.
+#[inline(always)]
+pub fn keep_eight(text: &[u8], from: usize, before: u64) -> Option<KeptRun>
+    requires { from + 8 ≤ length text.now }
+    ensures { IfSome result (KeepsRun text.now from before) }
+{
+    let (count, value) = leading_digits(text, from);
+    if !has_room(before, count) {
+        return None;
+    }
+    Some(KeptRun {
+        end: from + count,
+        kept: before * power_of_ten(count as u64) + value,
+        is_whole: count < 8,
+    })
 }
 
 /// Reads digits while there is room to keep them, eight bytes at once where as many are left.
@@ -72,37 +93,23 @@ pub fn has_room(before: u64, count: usize) -> bool
 fn keep_more_digits(text: &[u8], from: usize, before: u64) -> (usize, u64)
     requires from_within { from ≤ length text.now }
     requires before_fits { before < 10 ^ 19 }
-    ensures order { from ≤ result.0 }
-    ensures within { result.0 ≤ length text.now }
-    ensures digits { AreDigits (between text.now from result.0) }
-    ensures value { result.1 ≡ digits_behind before (between text.now from result.0) }
-    ensures fits { result.1 < 10 ^ 19 }
+    ensures keeps { KeepsDigits text.now from result.0 before result.1 }
     ensures stops { result.0 < length text.now → digit_test (slice_index text.now result.0) ≡ true
         → 10 ^ 18 ≤ result.1 }
-    ensures full { 10 ^ 18 ≤ before → result.0 ≡ from }
 {
     let mut kept = before;
     let mut end = from;
     while text.len() - end >= 8 {
-        let (count, value) = leading_digits(text, end);
-        if !has_room(kept, count) {
+        let Some(next) = keep_eight(text, end, kept) else {
             break;
-        }
-        kept = kept * power_of_ten(count as u64) + value;
-        end += count;
-        if count < 8 {
+        };
+        kept = next.kept;
+        end = next.end;
+        if next.is_whole {
             return (end, kept);
         }
     }
     keep_single_digits(text, end, kept)
-}
-
-/// Where digits that were kept end, and whether surely none stands there.
-#[derive(Clone, Copy)]
-pub struct KeptRun {
-    pub end: usize,
-    pub kept: u64,
-    pub is_whole: bool,
 }
 
 /// Reads digits while there is room to keep them. The first eight bytes are looked at here, since they have all
@@ -111,35 +118,24 @@ pub struct KeptRun {
 fn keep_digits(text: &[u8], from: usize, before: u64) -> KeptRun
     requires from_within { from ≤ length text.now }
     requires before_fits { before < 10 ^ 19 }
-    ensures order { from ≤ result.end }
-    ensures within { result.end ≤ length text.now }
-    ensures digits { AreDigits (between text.now from result.end) }
-    ensures value { result.kept ≡ digits_behind before (between text.now from result.end) }
-    ensures fits { result.kept < 10 ^ 19 }
+    ensures keeps { KeepsDigits text.now from result.end before result.kept }
     ensures stops { result.end < length text.now → digit_test (slice_index text.now result.end) ≡ true
         → 10 ^ 18 ≤ result.kept }
-    ensures full { 10 ^ 18 ≤ before → result.end ≡ from }
     ensures whole { IsTrue result.is_whole → result.end < length text.now → digit_test (slice_index text.now result.end)
         ≡ false }
 {
-    if text.len() - from >= 8 {
-        let (count, value) = leading_digits(text, from);
-        if has_room(before, count) {
-            let kept = before * power_of_ten(count as u64) + value;
-            if count < 8 {
-                return KeptRun {
-                    end: from + count,
-                    kept,
-                    is_whole: true,
-                };
-            }
-            let (end, all) = keep_more_digits(text, from + 8, kept);
-            return KeptRun {
-                end,
-                kept: all,
-                is_whole: false,
-            };
+    if text.len() - from >= 8
+        && let Some(first) = keep_eight(text, from, before)
+    {
+        if first.is_whole {
+            return first;
         }
+        let (end, kept) = keep_more_digits(text, first.end, first.kept);
+        return KeptRun {
+            end,
+            kept,
+            is_whole: false,
+        };
     }
     let (end, kept) = keep_single_digits(text, from, before);
     KeptRun {

@@ -4,14 +4,14 @@
 ghost use Rattle.std.specs.Prelude.{◌≡◌, ◌+◌, ◌^◌, ◌<◌, ◌≤◌, ◌&&◌, ◌-◌, IfSome, IsTrue, true, false, nat_lt, length};
 ghost use Rattle.std.specs.Prelude.{slice_index};
 ghost use Rattle.at_fixed.specs.Numerals.{AreDigits};
-ghost use Rattle.at_fixed.specs.NumberSoFar.{between};
-ghost use Rattle.at_fixed.specs.Scans.{AreEnds, EndsRun, IsLoneZero, KeepsFar, KeepsRun, KeepsTo, ReadsSign, ReadsLead};
+ghost use Rattle.at_fixed.specs.NumberSoFar.{between, KeepsDigits};
+ghost use Rattle.at_fixed.specs.Scans.{AreEnds, EndsRun, IsLoneZero, KeepsFar, KeepsRun, ReadsSign, ReadsLead};
 ghost use Rattle.at_fixed.specs.Scans.{ReadsWhole, ReadsMantissa, ReadsPower, may_take_point};
 ghost use Rattle.at_fixed.specs.Scanned.{IsScanned};
 ghost use Rattle.at_fixed.specs.States.{is_letter};
 
-use crate::digits::{Digits, DigitsRun, FULL, KeptRun, has_room, keep_single_digits};
-use crate::eights::{leading_digits, spelled_number};
+use crate::digits::{Digits, DigitsRun, FULL, KeptRun, keep_eight, keep_single_digits};
+use crate::eights::spelled_number;
 use crate::ends::Ends;
 use crate::notation::Notation;
 use crate::powers::power_of_ten;
@@ -46,7 +46,7 @@ fn keep_last(text: &[u8], from: usize, before: u64) -> Option<KeptRun>
 
 /// Reads the digits that begin the next eight bytes, or the last ones, behind the number before them.
 #[inline(always)]
-fn keep_eight(text: &[u8], from: usize, before: u64) -> Option<KeptRun>
+fn keep_next(text: &[u8], from: usize, before: u64) -> Option<KeptRun>
     requires from_within { from ≤ length text.now }
     requires before_fits { before < 10 ^ 19 }
     ensures { IfSome result (KeepsRun text.now from before) }
@@ -54,15 +54,7 @@ fn keep_eight(text: &[u8], from: usize, before: u64) -> Option<KeptRun>
     if text.len() - from < 8 {
         return keep_last(text, from, before);
     }
-    let (count, value) = leading_digits(text, from);
-    if !has_room(before, count) {
-        return None;
-    }
-    Some(KeptRun {
-        end: from + count,
-        kept: before * power_of_ten(count as u64) + value,
-        is_whole: count < 8,
-    })
+    keep_eight(text, from, before)
 }
 
 /// Reads all digits that stand at a place, behind the number before them, where they are fewer than sixteen.
@@ -72,11 +64,11 @@ fn keep_sixteen(text: &[u8], from: usize, before: u64) -> Option<KeptRun>
     requires before_fits { before < 10 ^ 19 }
     ensures { IfSome result (λ run. KeepsRun text.now from before run × (run.is_whole ≡ true)) }
 {
-    let first = keep_eight(text, from, before)?;
+    let first = keep_next(text, from, before)?;
     if first.is_whole {
         return Some(first);
     }
-    let second = keep_eight(text, first.end, first.kept)?;
+    let second = keep_next(text, first.end, first.kept)?;
     if second.is_whole { Some(second) } else { None }
 }
 
@@ -166,7 +158,7 @@ fn near_front(text: &[u8], notation: Notation) -> Option<Mantissa>
     ensures { IfSome result (λ front. ReadsMantissa notation text.now front × (front.is_number ≡ true)) }
 {
     let sign = read_sign(text, 0, notation);
-    let run = keep_eight(text, sign.end, 0)?;
+    let run = keep_next(text, sign.end, 0)?;
     let whole = whole_of(text, sign, run, notation)?;
     if !has_point(text, whole, notation) {
         return Some(whole);
@@ -183,7 +175,7 @@ fn keep_counted(text: &[u8], from: usize, count: usize, before: u64) -> u64
     requires few { count ≤ 8 }
     requires digits { AreDigits (between text.now from (from + count)) }
     requires room { before < 10 ^ (19 - count) }
-    ensures { KeepsTo text.now from (from + count) before result }
+    ensures { KeepsDigits text.now from (from + count) before result }
 {
     let number = spelled_number(text, from, count);
     before * power_of_ten(count as u64) + number
@@ -197,7 +189,7 @@ fn keep_long(text: &[u8], from: usize, to: usize, before: u64) -> u64
     requires few { to ≤ from + 16 }
     requires digits { AreDigits (between text.now from to) }
     requires room { before < 10 ^ (19 - (to - from)) }
-    ensures { KeepsTo text.now from to before result }
+    ensures { KeepsDigits text.now from to before result }
 {
     let first = keep_counted(text, from, 8, before);
     keep_counted(text, from + 8, to - from - 8, first)
@@ -209,7 +201,7 @@ fn keep_to(text: &[u8], from: usize, to: usize, before: u64) -> Option<u64>
     requires run { EndsRun text.now from to }
     requires inside { from + 16 ≤ length text.now }
     requires room { before < 10 ^ (19 - (to - from)) }
-    ensures { IfSome result (λ kept. KeepsTo text.now from to before kept × (to ≤ from + 16)) }
+    ensures { IfSome result (λ kept. KeepsDigits text.now from to before kept × (to ≤ from + 16)) }
 {
     let count = to - from;
     if count == 0 || count > 16 {

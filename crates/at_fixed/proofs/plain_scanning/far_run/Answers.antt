@@ -1,5 +1,6 @@
 use Rattle.std.proofs.Common.{◌-◌, refl, arith}
-use Rattle.at_fixed.proofs.PlainRuns.{kept_small, room_more, run_to}
+use Rattle.at_fixed.proofs.DigitParts.{kept_small, room_more}
+use Rattle.at_fixed.proofs.PlainRuns.{run_to}
 use Rattle.at_fixed.proofs.plain_scanning.far_run.Goals as goal
 
 pub keep_to-requires-clause-room : goal.keep_to-requires-clause-room
@@ -7,11 +8,5 @@ keep_to-requires-clause-room c = room_more c.args.before (19 - c.args.room) (19 
 
 pub returns-clause-keeps : goal.returns-clause-keeps
 returns-clause-keeps c =
-    let run = c.requires.run in
     let (keeps, near) = c.in_ok-kept.ensures in
-    record {
-      keeps = run_to c.args.text.now c.args.from c.args.to c.args.before c.in_ok-kept.kept run keeps;
-      whole = refl;
-      near = near;
-      small = kept_small c.args.text.now c.args.from c.args.to c.args.before c.in_ok-kept.kept (19 - c.args.room) run.order (omega (arith, run.within)) run.digits keeps.value c.requires.room;
-    }
+    record { keeps = run_to _ _ _ _ _ c.requires.run keeps; whole = refl; near = near; small = kept_small _ _ _ _ _ _ keeps.order keeps.within keeps.digits keeps.value c.requires.room }

@@ -1,6 +1,7 @@
 use Rattle.std.proofs.Common.{◌≡◌, ◌==◌, true, ◌-◌, ◌+◌, ◌*◌, ◌/◌, ◌^◌, ◌<◌, slice_index, arith, subst, ℕ}
 use Rattle.at_fixed.specs.NumberSoFar.{between, digits_behind}
-use Rattle.at_fixed.proofs.PlainRuns.{first_digits, room_more}
+use Rattle.at_fixed.proofs.DigitParts.{room_more}
+use Rattle.at_fixed.proofs.PlainRuns.{first_digits}
 use Rattle.at_fixed.proofs.Reaches.{pointed_rounded}
 use Rattle.at_fixed.proofs.short_numbers.rounded_whole.Goals as goal
 

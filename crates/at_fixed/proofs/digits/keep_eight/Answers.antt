@@ -1,15 +1,16 @@
 use Rattle.std.proofs.Common.{◌+◌, ◌-◌, ◌*◌, ◌^◌, ◌<◌, rules, arith}
 use Rattle.std.proofs.lemmas.Bool.{ltb-true}
-use Rattle.at_fixed.proofs.EightDigits.{EightKept, first_kept}
-use Rattle.at_fixed.proofs.plain_scanning.keep_eight.Goals as goal
+use Rattle.at_fixed.specs.NumberSoFar.{KeepsDigits}
+use Rattle.at_fixed.proofs.EightDigits.{next_kept}
+use Rattle.at_fixed.proofs.digits.keep_eight.Goals as goal
 
-kept : (c : goal.After-power_of_ten) → EightKept c.args.text.now c.args.from (c.args.from + c.leading_digits-count.result.0) c.args.before
+kept : (c : goal.After-power_of_ten) → KeepsDigits c.args.text.now c.args.from (c.args.from + c.leading_digits-count.result.0) c.args.before
     (c.args.before * c.power_of_ten.result + c.leading_digits-count.result.1)
 kept c =
     let eight = c.leading_digits-count.ensures in
     let room : c.args.before < 10 ^ (19 - c.leading_digits-count.result.0) = search rules in
-    first_kept c.args.text.now c.args.from c.leading_digits-count.result.0 c.args.before c.leading_digits-count.result.1 c.power_of_ten.result
-    (omega (arith, c.if-text-from-lt8.false, c.requires.from_within)) eight.few eight.digits eight.value c.power_of_ten.ensures room
+    next_kept c.args.text.now c.args.from c.leading_digits-count.result.0 c.args.before c.leading_digits-count.result.1 c.power_of_ten.result
+    c.requires eight.few eight.digits eight.value c.power_of_ten.ensures room
 
 pub overflow_mul-result : goal.overflow_mul-result
 overflow_mul-result c = record { fits = omega (arith, (kept c).fits) }
@@ -21,12 +22,7 @@ pub returns : goal.returns
 returns c =
     let eight = c.leading_digits-count.ensures in
     record {
-      order = omega arith;
-      within = omega (arith, c.if-text-from-lt8.false, c.requires.from_within, eight.few);
-      digits = (kept c).digits;
-      value = (kept c).value;
-      fits = (kept c).fits;
-      full = (kept c).full;
+      keeps = kept c;
       stops = λ e _. eight.stops (ltb-true c.leading_digits-count.result.0 8 e);
       filled = λ e. grind (arith, e, eight.few);
     }
