@@ -1,7 +1,8 @@
 -- The end of a number, with an exponent or without one: its longest viable prefix, its parts, and what is kept of them.
 -- For `json_number`, `leading_number`, `plain_len`, `plain_number`, `read_fixed` and `wkt_number`.
-use Rattle.std.proofs.Common.{◌≡◌, ℕ, ◌+◌, ◌^◌, ◌<◌, ◌≤◌, ◌⊎◌, inl, inr, Bool, true, false, cond, nat_lt, ◌==◌, ◌||◌, IsTrue, Option, Some, None, IfSome, List, [], ◌∷◌, ◌++◌, length, take, slice_index, refl, sym, ◌∙◌, ap, subst, arith, add-one, take-suc, append-nil, append_assoc}
+use Rattle.std.proofs.Common.{◌≡◌, ℕ, ◌+◌, ◌^◌, ◌<◌, ◌≤◌, ◌⊎◌, inl, inr, Bool, true, false, cond, nat_lt, ◌==◌, IsTrue, Option, Some, None, IfSome, List, [], ◌∷◌, ◌++◌, length, take, slice_index, refl, sym, ◌∙◌, ap, subst, arith, add-one, take-suc, append-nil, append_assoc}
 use Rattle.std.proofs.lemmas.Bool.{cases_lt, ltb-true, lt-ltb}
+use Rattle.std.proofs.Math.Bool.{or-false}
 use Rattle.at_text.specs.Prefix.{TakesLongest}
 use Rattle.at_text.specs.Texts.{is_digit}
 use Rattle.at_fixed.specs.declared.notation.Notation.{Notation}
@@ -18,8 +19,8 @@ use Rattle.at_fixed.specs.Scanned.{IsScanned, both_halves}
 use Rattle.at_fixed.specs.Scans.{ReadsSign, IsFrontOf, IsMantissaOf, after_mantissa, ReadsMantissa, ReadsExponent, ReadsNone, ReadsPower}
 use Rattle.at_fixed.proofs.DigitParts.{part-none, part-place, part-cons, part-more, part-length}
 use Rattle.at_fixed.proofs.NumberMachine.{number_at}
-use Rattle.at_fixed.proofs.Phases.{reads_byte, reads_digits, power_stays}
-use Rattle.at_fixed.proofs.Points.{not_above, some_digits}
+use Rattle.at_fixed.proofs.Phases.{reads_byte, reads_digits, power_stays, not_above}
+use Rattle.at_fixed.proofs.Points.{some_digits}
 
 -- the machine stands at the end, and no further byte can follow
 record Finished (g : Notation) (w : List ℕ) (end : ℕ) (is_number : Bool) : Type 0 where
@@ -167,10 +168,6 @@ record IsExponentSign (w : List ℕ) (i : ℕ) (sign : Sign) : Type 0 where
   minus : sign.is_minus ≡ has_minus (between w i sign.end)
   order : i ≤ sign.end
 
-or_false : (b : Bool) → (b || false) ≡ b
-or_false true = refl
-or_false false = refl
-
 sign_by : (w : List ℕ) (i : ℕ) (sign : Sign) → i ≤ length w → ReadsSign Wkt w i sign → IsExponentSign w i sign
 sign_by w i sign inside (inl (e, m, h)) =
     let none : between w i sign.end ≡ [] = ap (between w i) e ∙ part-none w i inside in
@@ -178,7 +175,7 @@ sign_by w i sign inside (inl (e, m, h)) =
 sign_by w i sign inside (inr (e, more, h, m)) =
     let one : between w i sign.end ≡ slice_index w i ∷ [] =
     ap (between w i) e ∙ (part-more w i i (omega arith) more ∙ ap (λ x. x ++ (slice_index w i ∷ [])) (part-none w i inside)) in
-    record { is_sign = rw one h; minus = rw (one, m) (sym (or_false (slice_index w i == 0x2D))); order = omega (arith, e) }
+    record { is_sign = rw one h; minus = rw (one, m) (sym (or-false (slice_index w i == 0x2D))); order = omega (arith, e) }
 
 above_same : (m k : Bool) (size v : ℕ) → m ≡ k → SameOrHuge size v → SameOrHuge (cond m 0 size) (cond k 0 v)
 above_same true k size v e h = let P : Bool → Type 0 = λ b. SameOrHuge 0 (cond b 0 v) in subst P e (inl refl)

@@ -18,52 +18,22 @@ upper whole digits = record { sign = []; whole = whole; fraction = None; exponen
 spelled : numeral_text (power (codes "-") (codes "25") (codes "8")) ≡ codes "-25e-8"
 spelled = refl
 
-a1 : fixed_of (plain (codes "1") (codes "5")) 7 Exact ≡ Ok (pos 15000000)
-a1 = refl
+values : (fixed_of (plain (codes "1") (codes "5")) 7 Exact ≡ Ok (pos 15000000))
+    × (fixed_of (power [] (codes "1") (codes "7")) 7 Exact ≡ Ok (pos 1))
+    × (fixed_of (power [] (codes "15") (codes "8")) 7 Exact ≡ Err Scale)
+    × (fixed_of (power [] (codes "15") (codes "8")) 7 Round ≡ Ok (pos 2))
+    × (fixed_of (power [] (codes "25") (codes "8")) 7 Round ≡ Ok (pos 2))
+    × (fixed_of (power (codes "-") (codes "25") (codes "8")) 7 Round ≡ Ok (negsuc 1))
+    × (fixed_of (power [] (codes "1") (codes "99")) 7 Exact ≡ Err Scale)
+    × (fixed_of (power [] (codes "1") (codes "99")) 7 Round ≡ Ok (pos 0))
+    × (fixed_of (upper (codes "0") (codes "999999999999")) 7 Exact ≡ Ok (pos 0))
+    × (fixed_of (upper (codes "3") (codes "7")) 7 Exact ≡ Ok (pos 300000000000000))
+    × (fixed_of (plain (codes "30000000") (codes "00000005")) 7 Exact ≡ Err Range)
+    × (fixed_of (plain (codes "30000000") (codes "00000005")) 7 Round ≡ Ok (pos 300000000000000))
+    × (fixed_of (plain (codes "30000000") (codes "00000015")) 7 Round ≡ Err Range)
+    × (fixed_of (upper (codes "1") (codes "99")) 7 Round ≡ Err Range)
+values = (refl, refl, refl, refl, refl, refl, refl, refl, refl, refl, refl, refl, refl, refl)
 
-a2 : fixed_of (power [] (codes "1") (codes "7")) 7 Exact ≡ Ok (pos 1)
-a2 = refl
-
-a3 : fixed_of (power [] (codes "15") (codes "8")) 7 Exact ≡ Err Scale
-a3 = refl
-
-a4 : fixed_of (power [] (codes "15") (codes "8")) 7 Round ≡ Ok (pos 2)
-a4 = refl
-
-a5 : fixed_of (power [] (codes "25") (codes "8")) 7 Round ≡ Ok (pos 2)
-a5 = refl
-
-a6 : fixed_of (power (codes "-") (codes "25") (codes "8")) 7 Round ≡ Ok (negsuc 1)
-a6 = refl
-
-a7 : fixed_of (power [] (codes "1") (codes "99")) 7 Exact ≡ Err Scale
-a7 = refl
-
-a8 : fixed_of (power [] (codes "1") (codes "99")) 7 Round ≡ Ok (pos 0)
-a8 = refl
-
-a9 : fixed_of (upper (codes "0") (codes "999999999999")) 7 Exact ≡ Ok (pos 0)
-a9 = refl
-
-a10 : fixed_of (upper (codes "3") (codes "7")) 7 Exact ≡ Ok (pos 300000000000000)
-a10 = refl
-
-a11 : fixed_of (plain (codes "30000000") (codes "00000005")) 7 Exact ≡ Err Range
-a11 = refl
-
-a12 : fixed_of (plain (codes "30000000") (codes "00000005")) 7 Round ≡ Ok (pos 300000000000000)
-a12 = refl
-
-a13 : fixed_of (plain (codes "30000000") (codes "00000015")) 7 Round ≡ Err Range
-a13 = refl
-
-a14 : fixed_of (upper (codes "1") (codes "99")) 7 Round ≡ Err Range
-a14 = refl
-
-a15 : written (negsuc 4999999) 7 ≡ codes "-0.5000000"
+texts : (written (negsuc 4999999) 7 ≡ codes "-0.5000000") × (written (pos 0) 7 ≡ codes "0.0000000")
 unfolding digits
-a15 = refl
-
-a16 : written (pos 0) 7 ≡ codes "0.0000000"
-unfolding digits
-a16 = refl
+texts = (refl, refl)

@@ -1,7 +1,7 @@
 -- The value of a number without division: what each answer says by products alone.
 -- For `read_fixed`.
 use Rattle.std.proofs.Common.{◌≡◌, ◌≢◌, ℕ, zero, suc, length, ◌^◌, ◌+◌, ◌*◌, ◌/◌, ◌%◌, ◌<◌, ◌≤◌, Bool, true, false, cond, nat_lt, ◌==◌, Result, Ok, Err, refl, sym, ◌∙◌, ap, arith, div-add-mod', mod-lt, add-zero, mul-le-mul_right, one-mul, lit<}
-use Rattle.std.proofs.lemmas.Bool.{eqb-true, eqb-false, ltb-true}
+use Rattle.std.proofs.lemmas.Bool.{eqb-true, eqb-false, ltb-false, ltb-true}
 use Rattle.std.proofs.Math.Nat.{mul-mod_left}
 use Rattle.at_fixed.specs.declared.rounding.FixedFault.{FixedFault}
 use Rattle.at_fixed.specs.declared.rounding.FixedFault.TheVariants.{Scale, Range}
@@ -11,9 +11,6 @@ use Rattle.at_fixed.specs.Numerals.{Numeral}
 use Rattle.at_fixed.specs.Fixed.{largest, exact_quotient, nearest, quotient, size_of, mantissa, fraction_digits, exponent_above, exponent_below, fixed_of}
 use Rattle.at_fixed.specs.Products.{IsExact, IsNearest, IsRounded, IsQuotient, IsSize, IsValue}
 use Rattle.at_fixed.proofs.Sizes.{pow_positive}
-
-not_less : (a b : ℕ) → nat_lt a b ≡ false → b ≤ a
-not_less a b h = grind (arith, h)
 
 abbrev ok_or_zero : Result ℕ FixedFault → ℕ
 ok_or_zero (Ok n) = n
@@ -28,14 +25,14 @@ exact_by : (p q : ℕ) (out whole : Bool) → nat_lt (largest * q) p ≡ out →
 exact_by p q true whole h k = record { value = λ r e. cc; range = λ e. ltb-true (largest * q) p h; scale = λ e. cc }
 exact_by p q false true h k = record {
   value = λ r e. let same_r : p / q ≡ r = ap ok_or_zero e in
-      (rw (← same_r) (sym (add-zero (p / q * q)) ∙ ap (λ n. p / q * q + n) (sym (eqb-true (p % q) 0 k)) ∙ div-add-mod' p q), not_less (largest * q) p h);
+      (rw (← same_r) (sym (add-zero (p / q * q)) ∙ ap (λ n. p / q * q + n) (sym (eqb-true (p % q) 0 k)) ∙ div-add-mod' p q), ltb-false (largest * q) p h);
   range = λ e. cc;
   scale = λ e. cc;
 }
 exact_by p q false false h k = record {
   value = λ r e. cc;
   range = λ e. cc;
-  scale = λ e. (not_less (largest * q) p h, λ r. no_multiple p q r (eqb-false (p % q) 0 k));
+  scale = λ e. (ltb-false (largest * q) p h, λ r. no_multiple p q r (eqb-false (p % q) 0 k));
 }
 
 pub exact_quotient_means : (p q : ℕ) → IsExact p q (exact_quotient p q)
@@ -65,7 +62,7 @@ nearest_by p q positive false true h k =
     let two : 0 < 2 = lit< tt in let below : (p / q) % 2 < 2 = mod-lt (p / q) two in let bit : (p / q) % 2 ≤ 1 = omega (arith, below) in
     half p q (p / q) (p % q) ((p / q) % 2) (sym (div-add-mod' p q)) (eqb-true (2 * (p % q)) q k) (grind (arith, mul-le-mul_right q bit, one-mul q)) (even_next' (p / q))
 nearest_by p q positive false false h k = less_than_half p q (p / q) (p % q) (sym (div-add-mod' p q))
-    (omega (arith, not_less q (2 * (p % q)) h, eqb-false (2 * (p % q)) q k))
+    (omega (arith, ltb-false q (2 * (p % q)) h, eqb-false (2 * (p % q)) q k))
 
 pub nearest_means : (p q : ℕ) → 0 < q → IsNearest p q (nearest p q)
 nearest_means p q positive = nearest_by p q positive (nat_lt q (2 * (p % q))) (2 * (p % q) == q) refl refl
@@ -75,7 +72,7 @@ rounded_by n p q true h e = record { nearest = n; is_nearest = h; value = λ r f
 rounded_by n p q false h e = record {
   nearest = n;
   is_nearest = h;
-  value = λ r f. (let same_r : n ≡ r = ap ok_or_zero f in (sym same_r, (let small : n ≤ largest = not_less largest n e in omega (arith, small, same_r))));
+  value = λ r f. (let same_r : n ≡ r = ap ok_or_zero f in (sym same_r, (let small : n ≤ largest = ltb-false largest n e in omega (arith, small, same_r))));
   range = λ f. cc;
   scale = λ f. cc;
 }

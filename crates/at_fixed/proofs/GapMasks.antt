@@ -25,8 +25,7 @@ abbrev bit : Bool → ℕ
 bit b = cond b 0 1
 
 negated : (b : Bool) → cond (not b) 1 0 ≡ bit b
-negated true = refl
-negated false = refl
+negated b = grind arith
 
 -- the mask of lanes that were computed from the bytes
 pub gaps_marked : (w : List ℕ) (at count : ℕ) (z : List ℕ) (f : ℕ → ℕ) → count ≤ 64 → at + count ≤ length w → ((k : ℕ) → Fits w8 (get_or w k 0)) → z ≡ map f (chunk at count w)
@@ -145,12 +144,10 @@ marks_further w count from gaps place rest marks first order cleared less = reco
 }
 
 is_set : (b : Bool) → bit b ≡ 0 → b ≡ true
-is_set true h = refl
-is_set false h = absurd (cc)
+is_set b h = grind (arith, h)
 
 is_clear : (b : Bool) → bit b ≡ 1 → b ≡ false
-is_clear true h = absurd (cc)
-is_clear false h = refl
+is_clear b h = grind (arith, h)
 
 -- ---- the digits before it
 

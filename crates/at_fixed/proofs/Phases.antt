@@ -1,8 +1,9 @@
 -- The steps of reading a number follow the machine.
 -- For `json_number`, `leading_number`, `plain_len`, `plain_number`, `read_fixed` and `wkt_number`.
-use Rattle.std.proofs.Common.{◌≡◌, ℕ, ◌+◌, ◌<◌, ◌≤◌, inl, inr, Bool, true, false, cond, nat_lt, ◌==◌, ◌||◌, Option, Some, None, option_and_then, List, [], ◌∷◌, ◌++◌, length, take, slice_index, refl, sym, ◌∙◌, ap, subst, arith, add-one, take-suc}
+use Rattle.std.proofs.Common.{◌≡◌, ℕ, ◌+◌, ◌<◌, ◌≤◌, inl, inr, Bool, true, false, cond, nat_lt, ◌==◌, Option, Some, None, option_and_then, List, [], ◌∷◌, ◌++◌, length, take, slice_index, refl, sym, ◌∙◌, ap, subst, arith, add-one, take-suc}
 use Rattle.std.proofs.lemmas.Bool.{lt-ltb}
 use Rattle.std.proofs.lemmas.Option.{same_Some, option_and_then_some}
+use Rattle.std.proofs.Math.Bool.{or-false}
 use Rattle.at_text.specs.Texts.{is_digit}
 use Rattle.at_text.proofs.Machine.{run, run_more}
 use Rattle.at_fixed.specs.declared.notation.Notation.{Notation}
@@ -88,10 +89,6 @@ one_sign Wkt b h = h
 take_one : (w : List ℕ) → 0 < length w → take 1 w ≡ slice_index w 0 ∷ []
 take_one w h = take-suc w 0 0 h
 
-or_false : (b : Bool) → (b || false) ≡ b
-or_false true = refl
-or_false false = refl
-
 starts : (g : Notation) (b : ℕ) → is_lead_sign g b ≡ false → step g start b ≡ lead g b
 starts g b h = ap (λ c. cond c (Some signed) (lead g b)) h
 
@@ -112,7 +109,7 @@ signed_one g w inside h = record {
   ends = refl;
   leads = λ more. refl;
   sign_is = subst (IsSignOf g) (sym (take_one w inside)) (one_sign g (slice_index w 0) h);
-  minus_is = sym (ap has_minus (take_one w inside) ∙ or_false (slice_index w 0 == 0x2D));
+  minus_is = sym (ap has_minus (take_one w inside) ∙ or-false (slice_index w 0 == 0x2D));
 }
 
 pub signed_by : (g : Notation) (w : List ℕ) (sign : Sign) → ReadsSign g w 0 sign → Signed g w sign.end sign.is_minus
@@ -178,7 +175,7 @@ led_digits g w i end minus h some within digits first stops =
       whole_is = subst (IsWholeOf g true) (sym cells) (whole_digits g (slice_index w i) (between w (i + 1) end) all first);
     }
 
-not_above : (i : ℕ) → nat_lt i i ≡ false
+pub not_above : (i : ℕ) → nat_lt i i ≡ false
 not_above i = grind arith
 
 pub led_by : (g : Notation) (w : List ℕ) (i end : ℕ) (minus : Bool) → Signed g w i minus → end ≤ length w → AreDigits (between w i end) → IsLead g w i end

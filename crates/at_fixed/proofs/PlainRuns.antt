@@ -6,7 +6,7 @@ use Rattle.at_fixed.specs.declared.digits.KeptRun.{KeptRun}
 use Rattle.at_fixed.specs.Numerals.{AreDigits}
 use Rattle.at_fixed.specs.NumberSoFar.{between, digits_behind, KeepsDigits}
 use Rattle.at_fixed.specs.Scans.{EndsRun, KeepsRun}
-use Rattle.at_fixed.proofs.DigitParts.{behind-both, keeps_both, kept_small, part-more, part-part}
+use Rattle.at_fixed.proofs.DigitParts.{behind-both, keeps_both, kept_small, part-more, part-part, room_more}
 
 -- eight digits, and the further ones behind them
 pub both_runs : (w : List ℕ) (from before : ℕ) (first second : KeptRun) → KeepsRun w from before first → first.is_whole ≡ false → KeepsRun w first.end first.kept second → second.is_whole ≡ true
@@ -60,9 +60,10 @@ first_small w from count to number run more is =
     let P : ℕ → Type 0 = λ n. number < 10 ^ n in
     subst P long (kept_small w from (from + count) 0 number 0 (omega arith) (omega (arith, run.within, more)) digits is (lit< tt))
 
--- how large the number is that digits spell
-pub spelled_small : (w : List ℕ) (from count number : ℕ) → EndsRun w from (from + count) → number ≡ digits_behind 0 (between w from (from + count)) → number < 10 ^ count
-spelled_small w from count number run is =
-    let long : 0 + (from + count - from) ≡ count = omega arith in
-    let P : ℕ → Type 0 = λ n. number < 10 ^ n in
-    subst P long (kept_small w from (from + count) 0 number 0 run.order (omega (arith, run.within)) run.digits is (lit< tt))
+-- the number that digits up to a place spell, and how large it is
+pub spelled_to : (w : List ℕ) (from to number : ℕ) → EndsRun w from to → number ≡ digits_behind 0 (between w from (from + (to - from)))
+    → (number ≡ digits_behind 0 (between w from to)) × (number < 10 ^ (to - from))
+spelled_to w from to number run is =
+    let place : from + (to - from) ≡ to = omega (arith, run.order) in
+    let value : number ≡ digits_behind 0 (between w from to) = rw place at is in
+    (value, room_more number (0 + (to - from)) (to - from) (kept_small w from to 0 number 0 run.order (omega (arith, run.within)) run.digits value (lit< tt)) (omega arith))

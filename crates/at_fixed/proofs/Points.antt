@@ -1,7 +1,7 @@
 -- The point of a number and the digits behind it follow the machine.
 -- For `json_number`, `leading_number`, `plain_len`, `plain_number`, `read_fixed` and `wkt_number`.
 use Rattle.std.proofs.Common.{◌≡◌, ℕ, ◌+◌, ◌-◌, ◌^◌, ◌<◌, ◌≤◌, inl, inr, Bool, true, false, cond, nat_lt, ◌==◌, ◌&&◌, ◌||◌, IsTrue, Option, Some, None, IfSome, List, [], ◌∷◌, ◌++◌, length, take, slice_index, refl, sym, ◌∙◌, ap, subst, arith, add-one, take-suc, append-nil, append_assoc, true≢false}
-use Rattle.std.proofs.lemmas.Bool.{cases_lt, eqb-true, ltb-true, lt-ltb}
+use Rattle.std.proofs.lemmas.Bool.{and_parts, cases_lt, eqb-true, ltb-true, lt-ltb}
 use Rattle.at_text.specs.Texts.{is_digit}
 use Rattle.at_fixed.specs.declared.notation.Notation.{Notation}
 use Rattle.at_fixed.specs.declared.notation.Notation.TheVariants.{Json, Wkt}
@@ -12,23 +12,17 @@ use Rattle.at_fixed.specs.NumberSoFar.{between, digits_behind, Keeps, KeepsDigit
 use Rattle.at_fixed.specs.States.{State, Reads, point, fraction, behind_digits, after_fraction, step, accepts}
 use Rattle.at_fixed.specs.Scans.{IsSignOf, IsWholeOf, after_lead, ReadsWhole, may_take_point, is_wkt, IsFrontOf, after_mantissa, ReadsMantissa}
 use Rattle.at_fixed.proofs.DigitParts.{part-place, part-cons, part-length, behind-both, run_whole}
-use Rattle.at_fixed.proofs.Phases.{reads_byte, reads_digits, fraction_stays}
+use Rattle.at_fixed.proofs.Phases.{reads_byte, reads_digits, fraction_stays, not_above}
 
 -- ---- tests
 
-and_true : (a b : Bool) → (a && b) ≡ true → (a ≡ true) × (b ≡ true)
-and_true true b h = (refl, h)
-and_true false b h = absurd (true≢false (sym h))
-
 and_after : (a b : Bool) → a ≡ true → (a && b) ≡ false → b ≡ false
-and_after true b h k = k
-and_after false b h k = absurd (true≢false (sym h))
+and_after a b h k = grind (arith, h, k)
 
 -- ---- no point
 
 and_one : (a : Bool) → (a && true) ≡ false → a ≡ false
-and_one true h = h
-and_one false h = refl
+and_one a h = grind (arith, h)
 
 plain_next : (g : Notation) (led : Bool) (b : ℕ) → ((b == 0x2E) && (led || is_wkt g)) ≡ false → after_lead g led b ≡ after_mantissa led b
 plain_next g true b h = ap (λ c. cond c (Some (behind_digits g)) (after_fraction b)) (and_one (b == 0x2E) h)
@@ -98,9 +92,6 @@ record Behind (g : Notation) (w : List ℕ) (end : ℕ) (is_number : Bool) : Typ
   ends : accepts state ≡ is_number
   next : end < length w → step g state (slice_index w end) ≡ after_mantissa is_number (slice_index w end)
 
-pub not_above : (i : ℕ) → nat_lt i i ≡ false
-not_above i = grind arith
-
 behind_by : (g : Notation) (w : List ℕ) (i end : ℕ) (led : Bool) → Reads g w i (after_point g led) → i ≤ end → end ≤ length w → AreDigits (between w i end)
     → (end < length w → is_digit (slice_index w end) ≡ false) → Behind g w end (nat_lt i end || (led && is_wkt g))
 behind_by g w i end led r order within digits stops = elim (cases_lt i end) [
@@ -149,8 +140,8 @@ pub fraction_by : (g : Notation) (w : List ℕ) (whole : Mantissa) (run : Digits
     → is_number ≡ (nat_lt (whole.end + 1) run.end || (whole.is_number && is_wkt g))
     → ReadsMantissa g w (record { end = run.end; is_number = is_number; is_minus = whole.is_minus; digits = run.digits; fraction = run.end - (whole.end + 1) })
 fraction_by g w whole run is_number h may order within digits stops fits dropped keeps e =
-    let (inside_test, rest_test) = and_true (nat_lt whole.end (length w)) _ may in
-    let (byte_test, led_test) = and_true (slice_index w whole.end == 0x2E) _ rest_test in
+    let (inside_test, rest_test) = and_parts (nat_lt whole.end (length w)) _ may in
+    let (byte_test, led_test) = and_parts (slice_index w whole.end == 0x2E) _ rest_test in
     let inside : whole.end < length w = ltb-true whole.end (length w) inside_test in
     let byte : slice_index w whole.end ≡ 0x2E = eqb-true (slice_index w whole.end) 0x2E byte_test in
     let fs : List ℕ = between w (whole.end + 1) run.end in

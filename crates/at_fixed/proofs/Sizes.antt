@@ -2,7 +2,8 @@
 -- For `leading_number`, `plain_len`, `plain_number`, `read_fixed` and `write_fixed`.
 use Rattle.std.proofs.Common.{◌≡◌, ℕ, zero, suc, ◌+◌, ◌-◌, ◌*◌, ◌^◌, ◌<◌, ◌≤◌, ◌⊎◌, inl, inr, Bool, true, false, cond, nat_lt, Option, Some, None, Result, Ok, Err, refl, sym, ◌∙◌, ap, subst, arith, lit<}
 use Rattle.std.proofs.lemmas.Nat.{pow-add}
-use Rattle.std.proofs.lemmas.Bool.{cases_lt, cases_eq, lt-ltb}
+use Rattle.std.proofs.lemmas.Bool.{cases_lt, lt-ltb}
+use Rattle.std.proofs.lemmas.Bool.Decides.{nat_tests}
 use Rattle.std.proofs.Math.Nat.{mul-le-mul_right, pow-le-pow_right, mul-lt-mul_of_pos_right, le-mul_of_pos_right, mul-pos, one-le-pow, mul_assoc}
 use Rattle.at_fixed.specs.declared.rounding.Coords.{Coords}
 use Rattle.at_fixed.specs.declared.rounding.FixedFault.{FixedFault}
@@ -38,10 +39,7 @@ pub rest_below : (R d A : ℕ) → R < 10 ^ d → R * 10 ^ A < 10 ^ d * 10 ^ A
 rest_below R d A h = mul-lt-mul_of_pos_right h (pow_positive A)
 
 pub rest_some : (R A : ℕ) → nat_lt 0 (R * 10 ^ A) ≡ nat_lt 0 R
-rest_some R A = elim (cases_eq R 0) [
-  | inl none ↦ (let zero : 0 * 10 ^ A ≡ 0 = omega arith in rw (none, zero) refl)
-  | inr some ↦ (let positive : 0 < R = omega arith in lt-ltb 0 (R * 10 ^ A) (mul-pos positive (pow_positive A)) ∙ sym (lt-ltb 0 R positive))
-]
+rest_some R A = let more : 0 < R → 0 < R * 10 ^ A = λ some. mul-pos some (pow_positive A) in grind (arith, nat_tests)
 
 -- a number with twenty places less than its denominator is below a half
 pub tiny : (K R d A B : ℕ) → K < 10 ^ 19 → R < 10 ^ d → A + d + 20 ≤ B → 2 * ((K * 10 ^ d + R) * 10 ^ A) < 10 ^ B

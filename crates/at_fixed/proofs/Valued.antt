@@ -1,8 +1,9 @@
 -- Numbers that surely have a value.
 -- For `leading_number`, `plain_len` and `plain_number`.
-use Rattle.std.proofs.Common.{◌≡◌, ℕ, zero, suc, ◌+◌, ◌-◌, ◌*◌, ◌/◌, ◌%◌, ◌^◌, ◌<◌, ◌≤◌, ◌⊎◌, inl, inr, pos, neg_ℤ, if◌then◌else◌, Bool, true, false, cond, nat_lt, ◌==◌, ◌||◌, ◌&&◌, ℤ, None, Result, Ok, Err, List, ◌++◌, length, take, refl, sym, ap, ◌∙◌, subst, arith, lit<, mod-lt, pow-add, append-nil}
+use Rattle.std.proofs.Common.{◌≡◌, ℕ, zero, suc, ◌+◌, ◌-◌, ◌*◌, ◌/◌, ◌%◌, ◌^◌, ◌<◌, ◌≤◌, ◌⊎◌, inl, inr, pos, neg_ℤ, if◌then◌else◌, Bool, cond, nat_lt, ◌==◌, ◌||◌, ◌&&◌, ℤ, None, Result, Ok, Err, List, ◌++◌, length, take, refl, sym, ap, ◌∙◌, subst, arith, lit<, pow-add, append-nil}
 use Rattle.std.proofs.Math.Nat.{div-lt_iff_lt-mul, mul-pos}
-use Rattle.std.proofs.lemmas.Bool.{cases_eq, cases_lt, cases_order, lt-ltb}
+use Rattle.std.proofs.lemmas.Bool.{cases_eq, le-ltb}
+use Rattle.std.proofs.lemmas.Bool.Decides.{nat_tests}
 use Rattle.at_fixed.specs.declared.notation.Notation.{Notation}
 use Rattle.at_fixed.specs.declared.rounding.Coords.{Coords}
 use Rattle.at_fixed.specs.declared.rounding.Coords.TheVariants.{Exact, Round}
@@ -16,16 +17,11 @@ use Rattle.at_fixed.specs.NumberSoFar.{Keeps}
 use Rattle.at_fixed.specs.Scans.{IsKeptFront, IsSizedIn, IsTenth, SurelyFits}
 use Rattle.at_fixed.proofs.DigitParts.{none_dropped, room_more}
 use Rattle.at_fixed.proofs.Endings.{numeral_by}
-use Rattle.at_fixed.proofs.Quotients.{eq_false, lt_false, reduced_rounded, rounded_by, whole_quotient}
+use Rattle.at_fixed.proofs.Quotients.{reduced_rounded, rounded_by, whole_quotient}
 use Rattle.at_fixed.proofs.Sizes.{near_by, pow_positive, rest_below, rest_some}
 
-at_most : (over tie : Bool) (d m : ℕ) → m < 2 → cond over (d + 1) (cond tie (d + m) d) ≤ d + 1
-at_most true tie d m few = omega arith
-at_most false true d m few = omega (arith, few)
-at_most false false d m few = omega arith
-
 nearest_most : (p q : ℕ) → nearest p q ≤ p / q + 1
-nearest_most p q = let two : 0 < 2 = lit< tt in at_most (nat_lt q (2 * (p % q))) (2 * (p % q) == q) (p / q) ((p / q) % 2) (mod-lt (p / q) two)
+nearest_most p q = grind (arith, nat_tests)
 
 top : (m e a b : ℕ) → m < 10 ^ e → e + a ≤ 14 + b → m * 10 ^ a < 10 ^ 14 * 10 ^ b
 top m e a b small few =
@@ -47,13 +43,11 @@ whole_ok how (suc m) a b whole near =
     let n : ℕ = suc m * 10 ^ (a - b) in let q : ℕ = 10 ^ b in
     let back : (a - b) + b ≡ a = omega (arith, whole) in
     let split : suc m * 10 ^ a ≡ n * q = ap (λ k. suc m * 10 ^ k) (sym back) ∙ rw (pow-add 10 (a - b) b) (grind arith) in
-    ap (λ k. quotient how k q) split ∙ (whole_quotient how n q (pow_positive b) ∙ ap (λ z. cond z (Err Range) (Ok n)) (lt_false largest n near))
+    ap (λ k. quotient how k q) split ∙ (whole_quotient how n q (pow_positive b) ∙ ap (λ z. cond z (Err Range) (Ok n)) (le-ltb largest n near))
 
 -- a number that is 0 is rounded to 0
 none_sized : (K s : ℕ) (up : Bool) (more : Bool) → K ≡ 0 → (nat_lt 5 (K % 10) || ((K % 10 == 5) && more)) ≡ up → s ≡ cond up (K / 10 + 1) (K / 10) → s ≡ 0
-none_sized K s up more none h size =
-    let P : ℕ → Type 0 = λ z. (nat_lt 5 (z % 10) || ((z % 10 == 5) && more)) ≡ up → s ≡ cond up (z / 10 + 1) (z / 10) → s ≡ 0 in
-    subst P (sym none) (λ k e. e ∙ ap (λ u. cond u (0 / 10 + 1) (0 / 10)) (sym k)) h size
+none_sized K s up more none h size = grind (arith, nat_tests)
 
 -- a number rounded by the first digit that isn't kept, behind which further digits stand that spell R
 rounded_ok : (m K R k d f s : ℕ) (up : Bool) → m ≡ K * 10 ^ k + R → R < 10 ^ k → f ≡ d + k + 1
@@ -69,21 +63,14 @@ rounded_ok (suc m) K R k d f s up is small places h size bound =
     ap (λ z. quotient Round (z * 10 ^ d) (10 ^ f)) is
     ∙ (sym (near_by Round K R k d f 1 places)
     ∙ (reduced_rounded K 10 5 (10 ^ k * 10 ^ d) (R * 10 ^ d) (nat_lt 0 R) refl (lit< tt) (rest_below R k d small) (sym (rest_some R d))
-    ∙ (ap (λ z. cond (nat_lt largest z) (Err Range) (Ok z)) same ∙ ap (λ z. cond z (Err Range) (Ok s)) (lt_false largest s bound))))
+    ∙ (ap (λ z. cond (nat_lt largest z) (Err Range) (Ok z)) same ∙ ap (λ z. cond z (Err Range) (Ok s)) (le-ltb largest s bound))))
 
 -- a number is rounded up from a 5 on, where something stands behind the 5
 up_from_five : (r R : ℕ) (odd : Bool) → (r ≡ 5 → 0 < R) → (nat_lt 5 r || ((r == 5) && (nat_lt 0 R || odd))) ≡ nat_lt 4 r
-up_from_five r R odd some = elim (cases_order r 5) [
-  | inl same ↦ rw (same, lt-ltb 0 R (some same)) refl
-  | inr (inl less) ↦ rw (lt_false 5 r (omega (arith, less)), eq_false r 5 (λ e. omega (arith, e, less)), lt_false 4 r (omega (arith, less))) refl
-  | inr (inr more) ↦ rw (lt-ltb 5 r more, lt-ltb 4 r (omega (arith, more))) refl
-]
+up_from_five r R odd some = grind (arith, nat_tests)
 
 tenth_cases : (n : ℕ) → (n + 5) / 10 ≡ cond (nat_lt 4 (n % 10)) (n / 10 + 1) (n / 10)
-tenth_cases n = elim (cases_lt 4 (n % 10)) [
-  | inl more ↦ rw (lt-ltb 4 (n % 10) more) (omega (arith, more))
-  | inr less ↦ rw (lt_false 4 (n % 10) less) (omega (arith, less))
-]
+tenth_cases n = grind (arith, nat_tests)
 
 -- the digits before the point and the first ones behind it, one of which isn't kept
 pub tenth_ok : (m lead first R k d f size tenth : ℕ) → m ≡ (lead * 10 ^ (d + 1) + first) * 10 ^ k + R → R < 10 ^ k → f ≡ d + k + 1
@@ -100,8 +87,7 @@ tenth_ok m lead first R k d f size tenth is small places size_is (tenth_is, some
     ap (λ z. size + z) (tenth_is ∙ tenth_cases first) ∙ (moved up size (first / 10) ∙ ap (λ z. cond up (z + 1) z) (sym whole)) in
     rounded_ok m K R k d f (size + tenth) up is small places decides sum bound where
       moved : (u : Bool) (a b : ℕ) → a + cond u (b + 1) b ≡ cond u (a + b + 1) (a + b)
-      moved true a b = omega arith
-      moved false a b = refl
+      moved u a b = grind (arith, nat_tests)
 
 -- or rounded, to some size
 sized_ok : (how : Coords) (m e a b : ℕ) → m < 10 ^ e → e + a ≤ 14 + b → (how ≡ Round) ⊎ (b ≤ a) → (s : ℕ) × (size_of how m a b ≡ Ok s)
@@ -110,7 +96,7 @@ sized_ok Round (suc m) e a b small few sure =
     let p : ℕ = suc m * 10 ^ a in let q : ℕ = 10 ^ b in
     let below : p / q < 10 ^ 14 = (div-lt_iff_lt-mul (pow_positive b)).1 (top (suc m) e a b small few) in
     let near : nearest p q ≤ largest = omega (arith, below, nearest_most p q) in
-    (nearest p q, rounded_by p q (nearest p q) refl ∙ ap (λ z. cond z (Err Range) (Ok (nearest p q))) (lt_false largest (nearest p q) near))
+    (nearest p q, rounded_by p q (nearest p q) refl ∙ ap (λ z. cond z (Err Range) (Ok (nearest p q))) (le-ltb largest (nearest p q) near))
 sized_ok Exact (suc m) e a b small few (inl other) = absurd (cc)
 sized_ok Exact (suc m) e a b small few (inr whole) =
     let most = sized_most (suc m) e (a - b) (10 ^ (a - b)) refl small (omega (arith, few, whole)) in

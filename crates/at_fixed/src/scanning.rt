@@ -1,10 +1,10 @@
 //! Any number, read up to its end: its sign, its digits, its fraction and its exponent.
 
-ghost use Rattle.std.specs.Prelude.{◌≡◌, ◌^◌, ◌<◌, ◌≤◌, ◌==◌, ◌&&◌, ◌||◌, nat_lt, IsTrue, if◌then◌else◌, length};
+ghost use Rattle.std.specs.Prelude.{◌≡◌, ◌^◌, ◌<◌, ◌≤◌, ◌==◌, ◌&&◌, ◌||◌, nat_lt, IsTrue, if◌then◌else◌, length, List, ℕ};
 ghost use Rattle.std.specs.Prelude.{slice_index};
 ghost use Rattle.at_fixed.specs.Scans.{ReadsSign, ReadsLead, ReadsWhole, ReadsMantissa, ReadsPower, may_take_point};
 ghost use Rattle.at_fixed.specs.Scans.{is_wkt};
-ghost use Rattle.at_fixed.specs.Scanned.{IsScanned, both_halves};
+ghost use Rattle.at_fixed.specs.Scanned.{IsScanned};
 
 use crate::digits::{Digits, DigitsRun, read_digits, read_power};
 use crate::notation::Notation;
@@ -209,7 +209,9 @@ pub fn scanned_of(front: Mantissa, power: Power) -> Scanned
     requires dropped { front.digits.dropped ≤ 2 ^ 28 }
     requires count { front.fraction ≤ 2 ^ 28 }
     requires size { power.size < 2 ^ 40 }
-    ensures { result ≡ both_halves front power }
+    ensures reads { (notation : Notation) (w : List ℕ) → length w ≤ 2 ^ 28 → ReadsMantissa notation w front
+        → ReadsPower w front power → IsScanned notation w result }
+    ensures is_number { result.is_number ≡ power.is_number }
 {
     Scanned {
         len: power.end,

@@ -38,18 +38,18 @@ fn fraction_fits(count: usize, digits: u8) -> bool
     count > 0 && count <= 8 && count <= digits as usize
 }
 
-/// The number that so many digits at a place spell, with so many zeros behind them.
+/// The number that the digits from one place up to another spell, with so many zeros behind them.
 #[inline(always)]
-fn size_with_zeros(text: &[u8], from: usize, count: usize, zeros: usize) -> u64
-    requires run { EndsRun text.now from (from + count) }
+fn size_with_zeros(text: &[u8], from: usize, to: usize, zeros: usize) -> u64
+    requires run { EndsRun text.now from to }
     requires inside { from + 8 ≤ length text.now }
-    requires some { 0 < count }
-    requires few { count ≤ 8 }
-    requires fits { count + zeros ≤ 14 }
-    ensures value { result ≡ digits_behind 0 (between text.now from (from + count)) * 10 ^ zeros }
+    requires some { from < to }
+    requires few { to ≤ from + 8 }
+    requires fits { to + zeros ≤ from + 14 }
+    ensures value { result ≡ digits_behind 0 (between text.now from to) * 10 ^ zeros }
     ensures bound { result < 10 ^ 14 }
 {
-    spelled_number(text, from, count) * power_of_ten(zeros as u64)
+    spelled_number(text, from, to - from) * power_of_ten(zeros as u64)
 }
 
 /// Whether a number with so many digits behind the point is rounded by the first of them that isn't kept, where units
@@ -128,8 +128,7 @@ fn rounded_whole(text: &[u8], ends: Ends, digits: u8, notation: Notation) -> Opt
     let kept = digits as usize + 1;
     let first = first_spelled(text, ends.first + 1, kept, ends.second);
     let tenth = nearest_tenth(first, text, ends.first + 1 + kept, ends.second)?;
-    let count = ends.first - ends.sign.end;
-    let lead = size_with_zeros(text, ends.sign.end, count, digits as usize);
+    let lead = size_with_zeros(text, ends.sign.end, ends.first, digits as usize);
     Some(Whole {
         end: ends.second,
         is_minus: ends.sign.is_minus,
@@ -164,9 +163,8 @@ fn pointed_whole(
             None
         };
     }
-    let count = ends.first - ends.sign.end;
-    let lead = size_with_zeros(text, ends.sign.end, count, digits as usize);
-    let rest = size_with_zeros(text, behind, fraction, digits as usize - fraction);
+    let lead = size_with_zeros(text, ends.sign.end, ends.first, digits as usize);
+    let rest = size_with_zeros(text, behind, ends.second, digits as usize - fraction);
     Some(Whole {
         end: ends.second,
         is_minus: ends.sign.is_minus,
@@ -200,6 +198,6 @@ pub fn short_whole(
     Some(Whole {
         end: ends.first,
         is_minus: ends.sign.is_minus,
-        size: size_with_zeros(text, from, count, digits as usize),
+        size: size_with_zeros(text, from, ends.first, digits as usize),
     })
 }

@@ -1,5 +1,4 @@
-use Rattle.std.proofs.Common.{◌≡◌, ◌==◌, true, ◌-◌, ◌+◌, ◌*◌, ◌^◌, slice_index, refl, arith, subst, ℕ}
-use Rattle.at_fixed.specs.NumberSoFar.{between, digits_behind}
+use Rattle.std.proofs.Common.{◌≡◌, ◌==◌, true, ◌-◌, ◌+◌, slice_index, refl, arith}
 use Rattle.at_fixed.proofs.Reaches.{pointed_whole}
 use Rattle.at_fixed.proofs.short_numbers.pointed_whole.Goals as goal
 
@@ -11,12 +10,8 @@ returns-clause-whole c =
     let first = c.args.ends.first in
     let fraction = c.args.ends.second - (first + 1) in
     let order = ends.behind.order in
-    let place : c.args.ends.sign.end + (first - c.args.ends.sign.end) ≡ first = omega (arith, some) in
-    let P : ℕ → Type 0 = λ z. c.size_with_zeros-lead.result ≡ digits_behind 0 (between c.args.text.now c.args.ends.sign.end z) * 10 ^ c.args.digits in
-    let end : first + 1 + fraction ≡ c.args.ends.second = omega (arith, order) in
-    let Q : ℕ → Type 0 = λ z. c.size_with_zeros-rest.result ≡ digits_behind 0 (between c.args.text.now (first + 1) z) * 10 ^ (c.args.digits - fraction) in
     let stands : (slice_index c.args.text.now first == 0x2E) ≡ true = grind (arith, c.requires.point) in
     pointed_whole c.args.notation c.args.text.now c.args.ends.sign first ends.sign ends.lead some lead (record { end = c.args.ends.second; fraction = fraction })
     ends.behind (omega (arith, order)) more (omega (arith, c.requires.near)) c.args.digits c.args.how c.size_with_zeros-lead.result c.size_with_zeros-rest.result
-    (subst P place c.size_with_zeros-lead.ensures.value) (subst Q end c.size_with_zeros-rest.ensures.value) whole
+    c.size_with_zeros-lead.ensures.value c.size_with_zeros-rest.ensures.value whole
     (omega (arith, c.size_with_zeros-lead.ensures.bound, c.size_with_zeros-rest.ensures.bound)) stands

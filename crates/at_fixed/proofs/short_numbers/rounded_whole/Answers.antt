@@ -1,5 +1,4 @@
-use Rattle.std.proofs.Common.{◌≡◌, ◌==◌, true, ◌-◌, ◌+◌, ◌*◌, ◌/◌, ◌^◌, ◌<◌, slice_index, arith, subst, ℕ}
-use Rattle.at_fixed.specs.NumberSoFar.{between, digits_behind}
+use Rattle.std.proofs.Common.{◌≡◌, ◌==◌, true, ◌-◌, ◌+◌, ◌/◌, ◌^◌, ◌<◌, slice_index, arith}
 use Rattle.at_fixed.proofs.DigitParts.{room_more}
 use Rattle.at_fixed.proofs.PlainRuns.{first_digits}
 use Rattle.at_fixed.proofs.Reaches.{pointed_rounded}
@@ -14,14 +13,12 @@ returns-clause-whole c =
     let number = c.first_spelled-first.result in
     let fraction = c.args.ends.second - (first + 1) in
     let order = ends.behind.order in
-    let place : c.args.ends.sign.end + (first - c.args.ends.sign.end) ≡ first = omega (arith, some) in
-    let P : ℕ → Type 0 = λ z. c.size_with_zeros-lead.result ≡ digits_behind 0 (between c.args.text.now c.args.ends.sign.end z) * 10 ^ c.args.digits in
     let stands : (slice_index c.args.text.now first == 0x2E) ≡ true = grind (arith, c.requires.point) in
     let small : number < 10 ^ 14 = room_more number (c.args.digits + 1) 14 c.first_spelled-first.ensures.bound (omega (arith, few)) in
     let most : c.in_ok-tenth.tenth ≡ (number + 5) / 10 = c.in_ok-tenth.ensures.0 in
     pointed_rounded c.args.notation c.args.text.now c.args.ends.sign first ends.sign ends.lead some lead (record { end = c.args.ends.second; fraction = fraction })
     ends.behind (omega (arith, order)) (omega (arith, more)) (omega (arith, c.requires.near)) c.args.digits c.size_with_zeros-lead.result number c.in_ok-tenth.tenth
-    (subst P place c.size_with_zeros-lead.ensures.value) c.first_spelled-first.ensures.value (omega (arith, more)) c.in_ok-tenth.ensures
+    c.size_with_zeros-lead.ensures.value c.first_spelled-first.ensures.value (omega (arith, more)) c.in_ok-tenth.ensures
     (omega (arith, c.size_with_zeros-lead.ensures.bound, small, most)) stands
 
 pub nearest_tenth-requires-clause-digits : goal.nearest_tenth-requires-clause-digits

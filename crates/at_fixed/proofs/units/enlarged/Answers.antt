@@ -1,7 +1,7 @@
 use Rattle.std.proofs.Common.{◌-◌, ◌*◌, ◌^◌, ◌<◌, ◌≤◌, refl, ap, arith, lit<}
 use Rattle.std.proofs.Math.Nat.{pow-le-pow_right}
 use Rattle.at_fixed.specs.Fixed.{largest}
-use Rattle.at_fixed.proofs.Quotients.{lt_false}
+use Rattle.std.proofs.lemmas.Bool.{le-ltb}
 use Rattle.at_fixed.proofs.Sizes.{vast_kept, above_limit, within_limit}
 use Rattle.at_fixed.proofs.units.enlarged.Goals as goal
 
@@ -27,7 +27,7 @@ returns-then-kept-largest_kept-clause-value c =
 pub returns-else-kept-largest_kept-clause-value : goal.returns-else-kept-largest_kept-clause-value
 returns-else-kept-largest_kept-clause-value c =
     let within = within_limit c.args.kept c.args.shift (omega arith) (rw c.power_of_ten-largest_kept.ensures at c.if-kept-largest_kept.false) in
-    rw (c.power_of_ten.ensures, lt_false largest (c.args.kept * 10 ^ c.args.shift) within) refl
+    rw (c.power_of_ten.ensures, le-ltb largest (c.args.kept * 10 ^ c.args.shift) within) refl
 
 pub returns-else-kept-largest_kept-clause-bound : goal.returns-else-kept-largest_kept-clause-bound
 returns-else-kept-largest_kept-clause-bound c =
