@@ -2,8 +2,8 @@
 -- of the other's line. All numbers are whole, and a segment may be one position.
 -- A segment ab has the vector u, a segment cd the vector v, and w leads from a to c.
 -- For most public calls of the crate, `are_closed`, `doubled_area`, `in_polygon` among them.
-use Rattle.std.proofs.Common.{◌≡◌, ◌≢◌, ℕ, zero, suc, ℤ, pos, negsuc, ◌+◌, ◌-◌, ◌*◌, ◌≤◌, ◌+ℤ◌, ◌-ℤ◌, ◌*ℤ◌, ◌≤ℤ◌, ◌<ℤ◌, ◌⊎◌, inl, inr, neg_ℤ, nat_abs, arith, sym, ap, ◌∙◌, subst}
-use Rattle.std.proofs.Math.IntN.{ℤ_discrete, *ℤ_comm}
+use Rattle.std.proofs.Common.{◌≡◌, ◌≢◌, ℕ, zero, suc, ℤ, pos, negsuc, ◌+◌, ◌-◌, ◌*◌, ◌≤◌, ◌+ℤ◌, ◌-ℤ◌, ◌*ℤ◌, ◌≤ℤ◌, ◌<ℤ◌, ◌⊎◌, inl, inr, neg_ℤ, nat_abs, arith, refl, sym, ap, ◌∙◌, subst}
+use Rattle.std.proofs.Math.IntN.{ℤ_discrete}
 use Rattle.std.specs.Int.{int_min, int_max}
 use Rattle.std.proofs.lemmas.Int.{ints, clamps, by_lt_z}
 use borrow.Author.Differences.{up, down}
@@ -172,39 +172,26 @@ up_to_sign n j u w u' w' e f h = let g = rw (e, f, neg_mul (pos n) w', mul_neg u
 as_it_is : (n j : ℕ) (u w u' w' : ℤ) → u ≡ pos n → w ≡ pos j → u *ℤ w' ≡ u' *ℤ w → pos n *ℤ w' ≡ pos j *ℤ u'
 as_it_is n j u w u' w' e f h = let g = rw (e, f) at h in omega (arith, ints, g)
 
-along_above : (n j : ℕ) (u w : ℤ) → u ≡ pos n → w ≡ pos j → pos n *ℤ w ≡ pos j *ℤ u
-along_above n j u w e f = rw (e, f) (*ℤ_comm (pos n) (pos j))
+-- u and w are on one side of 0
+abbrev OnOneSide : ℤ → ℤ → Type 0
+OnOneSide u w = ((pos 0 <ℤ u) × (pos 0 ≤ℤ w)) ⊎ ((u <ℤ pos 0) × (w ≤ℤ pos 0))
 
-along_below : (n j : ℕ) (u w : ℤ) → u ≡ neg_ℤ (pos n) → w ≡ neg_ℤ (pos j) → pos n *ℤ w ≡ pos j *ℤ u
-along_below n j u w e f = rw (e, f) (mul_neg (pos n) (pos j) ∙ (ap neg_ℤ (*ℤ_comm (pos n) (pos j)) ∙ sym (mul_neg (pos j) (pos n))))
+by_sizes : (u w u' w' : ℤ) → OnOneSide u w → u *ℤ w' ≡ u' *ℤ w → pos (nat_abs u) *ℤ w' ≡ pos (nat_abs w) *ℤ u'
+by_sizes u w u' w' (inl side) h = as_it_is (nat_abs u) (nat_abs w) u w u' w' (omega (arith, ints)) (omega (arith, ints)) h
+by_sizes u w u' w' (inr side) h = up_to_sign (nat_abs u) (nat_abs w) u w u' w' (omega (arith, ints)) (omega (arith, ints)) h
 
 -- a place between a and b on an axis on which they differ, and on their line
 on_line : (a b p a' b' p' : ℤ) → a ≢ b → Between a b p → (b -ℤ a) *ℤ (p' -ℤ a') ≡ (b' -ℤ a') *ℤ (p -ℤ a) → Proportion a b p a' b' p'
 on_line a b p a' b' p' ne h e =
-    by_lt_z a b
-    (λ l.
-    let (n, en) = nat_of (b -ℤ a) (omega (arith, ints)) in
-    let (j, ej) = nat_of (p -ℤ a) (omega (arith, ints, clamps)) in
+    let side : OnOneSide (b -ℤ a) (p -ℤ a) = by_lt_z a b (λ l. inl (omega (arith, ints), omega (arith, ints, clamps))) (λ l. inr (omega (arith, ints), omega (arith, ints, clamps))) in
     record {
-      n = n;
-      j = j;
-      some_parts = omega (arith, ints, en);
-      within = omega (arith, ints, clamps, en, ej);
-      along = along_above n j (b -ℤ a) (p -ℤ a) en ej;
-      across = as_it_is n j (b -ℤ a) (p -ℤ a) (b' -ℤ a') (p' -ℤ a') en ej e;
-    })
-    (λ l.
-    let m : b <ℤ a = omega (arith, ints) in
-    let (n, en) = neg_of (b -ℤ a) (omega (arith, ints)) in
-    let (j, ej) = neg_of (p -ℤ a) (omega (arith, ints, clamps)) in
-    record {
-      n = n;
-      j = j;
-      some_parts = omega (arith, ints, en);
-      within = omega (arith, ints, clamps, en, ej);
-      along = along_below n j (b -ℤ a) (p -ℤ a) en ej;
-      across = up_to_sign n j (b -ℤ a) (p -ℤ a) (b' -ℤ a') (p' -ℤ a') en ej e;
-    })
+      n = nat_abs (b -ℤ a);
+      j = nat_abs (p -ℤ a);
+      some_parts = omega (arith, ints);
+      within = omega (arith, ints, clamps);
+      along = by_sizes (b -ℤ a) (p -ℤ a) (b -ℤ a) (p -ℤ a) side refl;
+      across = by_sizes (b -ℤ a) (p -ℤ a) (b' -ℤ a') (p' -ℤ a') side e;
+    }
 
 -- from an end of one segment on the other to the point that both have
 at_c : (n j : ℕ) (a b c d : ℤ) → pos n *ℤ (c -ℤ a) ≡ pos j *ℤ (b -ℤ a) → (pos j *ℤ (b -ℤ a)) -ℤ (pos 0 *ℤ (d -ℤ c)) ≡ pos n *ℤ (c -ℤ a)

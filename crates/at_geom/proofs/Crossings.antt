@@ -126,9 +126,9 @@ pub record IsRingLeft (p : Pos) (ring : List Pos) (a : Pos) (rest : List Pos) (i
   pub on_edge : SomeEdgeIsLeft (λ e. IsOn p e.0 e.1) ring a rest i
   pub parity : is_odd_for p ring ≡ flip is_odd (is_odd_for p (a ∷ drop i rest))
 
-pub one_edge_on : {p : Pos} {ring : List Pos} {a : Pos} {rest : List Pos} {i : ℕ} (d : Pos) {o o' : Bool} → IsRingLeft p ring a rest i o → IsInRange (get_or rest i d) → i < length rest → ¬ IsOn p a (get_or rest i d) → o' ≡ cond (is_crossed p (a, get_or rest i d)) (not o) o → IsRingLeft p ring (get_or rest i d) rest (i + 1) o'
-one_edge_on {p} {ring} {a} {rest} {i} d {o} {o'} now ranged lt off e = record {
-  on_edge = not_in_edge d now.on_edge ranged lt off;
+pub one_edge_on : {p : Pos} {ring : List Pos} {a : Pos} {rest : List Pos} {i : ℕ} (d : Pos) {o o' : Bool} → IsRingLeft p ring a rest i o → i < length rest → ¬ IsOn p a (get_or rest i d) → o' ≡ cond (is_crossed p (a, get_or rest i d)) (not o) o → IsRingLeft p ring (get_or rest i d) rest (i + 1) o'
+one_edge_on {p} {ring} {a} {rest} {i} d {o} {o'} now lt off e = record {
+  on_edge = not_in_edge d now.on_edge lt off;
   parity = parity_kept _ o o' _ _ _ now.parity (parity_at p a rest i d lt) e;
 }
 

@@ -56,6 +56,7 @@ pub record SomeItemIsLeft {X Y : Type 0} (P : Y → Type 0) (f : X → List Y) (
 
 pub record SomeEdgeIsLeft (P : Pos × Pos → Type 0) (path : List Pos) (a : Pos) (rest : List Pos) (i : ℕ) : Type 0 where
   pub from_in_range : IsInRange a
+  pub rest_in_range : All IsInRange rest
   pub left : SomeIsLeft P (edges path) (edges (a ∷ drop i rest))
 
 -- the loop's item y gives a list, which was looked through
@@ -78,11 +79,19 @@ not_in_item {X} {Y} {P} {f} {xs} {i} {y} {part} {r} now is lt e said t =
     }
 
 -- the loop's item ends an edge
-pub not_in_edge : {P : Pos × Pos → Type 0} {path : List Pos} {a : Pos} {rest : List Pos} {i : ℕ} (d : Pos) → SomeEdgeIsLeft P path a rest i → IsInRange (get_or rest i d) → i < length rest → ¬ P (a, get_or rest i d) → SomeEdgeIsLeft P path (get_or rest i d) rest (i + 1)
-not_in_edge {P} {path} {a} {rest} {i} d now ranged lt f =
+pub all_edges : {P : Pos × Pos → Type 0} {path : List Pos} {a : Pos} {rest : List Pos} → path ≡ a ∷ rest → All IsInRange path → SomeEdgeIsLeft P path a rest 0
+all_edges {P} e ranged = record {
+  from_in_range = head_of_all IsInRange e ranged;
+  rest_in_range = tail_of_all IsInRange e ranged;
+  left = record { in_rest = subst (λ (l : List Pos). SomeOf P (edges l)) e; from_rest = subst (λ (l : List Pos). SomeOf P (edges l)) (sym e) };
+}
+
+pub not_in_edge : {P : Pos × Pos → Type 0} {path : List Pos} {a : Pos} {rest : List Pos} {i : ℕ} (d : Pos) → SomeEdgeIsLeft P path a rest i → i < length rest → ¬ P (a, get_or rest i d) → SomeEdgeIsLeft P path (get_or rest i d) rest (i + 1)
+not_in_edge {P} {path} {a} {rest} {i} d now lt f =
     let split = drop_more rest i d lt in
     record {
-      from_in_range = ranged;
+      from_in_range = now.rest_in_range i d lt;
+      rest_in_range = now.rest_in_range;
       left = record {
         in_rest = λ h. not_first P _ _ f (subst (λ (r : List Pos). SomeOf P (edges (a ∷ r))) split (now.left.in_rest h));
         from_rest = λ h. now.left.from_rest (subst (λ (r : List Pos). SomeOf P (edges (a ∷ r))) (sym split) (inr h));

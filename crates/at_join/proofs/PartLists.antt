@@ -35,18 +35,7 @@ one_cell a b from to low high p pa pb v w =
     one_number (spread_of (a ++ b)) v.first.extent v.second.extent v.cell w.cell v.here same
 
 within : (a b : List Entry) (from to low high : ℕ) (p : Pair) (v : InCells a b from to p) → low ≤ v.cell → v.cell < high → InCells a b low high p
-within a b from to low high p v l h = record {
-  first = v.first;
-  second = v.second;
-  of_first = v.of_first;
-  of_second = v.of_second;
-  is = v.is;
-  meet = v.meet;
-  cell = v.cell;
-  at_least = l;
-  below = h;
-  here = v.here;
-}
+within a b from to low high p v l h = record { first = v.first; second = v.second; of_first = v.of_first; of_second = v.of_second; is = v.is; meet = v.meet; cell = v.cell; at_least = l; below = h; here = v.here }
 
 -- ---- how often a pair stands in a list
 

@@ -74,16 +74,6 @@ part_all R xs from to le end h = λ k e lt.
 abbrev pub part_of : List Outline → ℕ → ℕ → List Outline
 part_of xs from to = take (to - from) (drop from xs)
 
--- with the outlines near a part of a stretch all its pairs of the rectangle are found
-pub sifts_part : (rect round window : Extent) (a b : List Entry) (xs ys cleared near : List Outline) (from to : ℕ) → from < to → to ≤ length xs
-    → ((k : ℕ) (e : Outline) → from ≤ k → k < to → encloses round (get_or xs k e).extent ≡ true) → All (λ (q : Outline). IsWide q.extent) ys
-    → window ≡ common_of round rect → cleared ≡ [] → Finds (IsInWindow window) itself ys cleared near
-    → Sifts (CellHit rect a b) (pairs_of (part_of xs from to) ys) (pairs_of (part_of xs from to) near)
-sifts_part rect round window a b xs ys cleared near from to lt end inside wide is none h =
-    sifts_near rect round a b (part_of xs from to) ys near
-    (part_all (λ (p : Outline). encloses round p.extent ≡ true) xs from to (omega (arith, lt)) end (λ k e f t below. inside k e f t)) wide
-    (subst (λ (w : Extent). Keeps (IsInWindow w) ys near) is (found_kept (IsInWindow window) ys cleared near none h))
-
 -- what slices of the lists are
 pub record AreSlices (first second a b : List Entry) (outlines xs slice near : List Outline) : Type 0 where
   pub of_first : first ≡ a
@@ -91,32 +81,51 @@ pub record AreSlices (first second a b : List Entry) (outlines xs slice near : L
   pub of_outlines : outlines ≡ xs
   pub of_near : slice ≡ near
 
-pub outlines_known : (first second a b : List Entry) (outlines xs ys cleared slice near : List Outline) (window : Extent) (from to : ℕ) → AreSlices first second a b outlines xs slice near
+pub slices : {first second a b : List Entry} {outlines xs slice near : List Outline} → first ≡ a → second ≡ b → outlines ≡ xs → slice ≡ near → AreSlices first second a b outlines xs slice near
+slices e f g h = record { of_first = e; of_second = f; of_outlines = g; of_near = h }
+
+pub outlines_known : {first second a b : List Entry} {outlines xs slice near : List Outline} (ys cleared : List Outline) (window : Extent) (from to : ℕ) → AreSlices first second a b outlines xs slice near
     → All (IsOutlineOf a) xs → All (IsOutlineOf b) ys → cleared ≡ [] → Finds (IsInWindow window) itself ys cleared near → All (IsOutlineOf first) (part_of outlines from to) × All (IsOutlineOf second) slice
-outlines_known first second a b outlines xs ys cleared slice near window from to same all others none h = (
+outlines_known {first} {second} {a} {b} {outlines} {xs} {slice} {near} ys cleared window from to same all others none h = (
   subst (λ (es : List Entry). All (IsOutlineOf es) (part_of outlines from to)) (sym same.of_first)
       (All-take (IsOutlineOf a) (to - from) (drop from outlines) (All-drop (IsOutlineOf a) from outlines (subst (All (IsOutlineOf a)) (sym same.of_outlines) all))),
   subst (λ (es : List Entry). All (IsOutlineOf es) slice) (sym same.of_second)
       (subst (All (IsOutlineOf b)) (sym same.of_near) (near_all (IsOutlineOf b) window ys near (found_kept (IsInWindow window) ys cleared near none h) others)),
 )
 
-pub part_found : (rect : Extent) (first second a b : List Entry) (outlines xs ys slice near : List Outline) (from to : ℕ) (old mid new : List Pair) → AreSlices first second a b outlines xs slice near → from < to
-    → Sifts (CellHit rect a b) (pairs_of (part_of xs from to) ys) (pairs_of (part_of xs from to) near) → Finds (CellHit rect a b) at_outlines (pairs_of (take from xs) ys) old mid
-    → Finds (CellHit rect first second) at_outlines (pairs_of (part_of outlines from to) slice) mid new → Finds (CellHit rect a b) at_outlines (pairs_of (take to xs) ys) old new
-part_found rect first second a b outlines xs ys slice near from to old mid new same lt sifted h k =
-    let one = subst (λ (l : List Entry). Finds (CellHit rect l second) at_outlines (pairs_of (part_of outlines from to) slice) mid new) same.of_first k in
-    let two = subst (λ (l : List Entry). Finds (CellHit rect a l) at_outlines (pairs_of (part_of outlines from to) slice) mid new) same.of_second one in
-    let three = subst (λ (l : List Outline). Finds (CellHit rect a b) at_outlines (pairs_of (part_of l from to) slice) mid new) same.of_outlines two in
-    let four = subst (λ (l : List Outline). Finds (CellHit rect a b) at_outlines (pairs_of (part_of xs from to) l) mid new) same.of_near three in
-    finds_to (CellHit rect a b) at_outlines xs ys from to old mid new (omega (arith, lt)) h
-    (finds_sifted (CellHit rect a b) at_outlines (pairs_of (part_of xs from to) ys) (pairs_of (part_of xs from to) near) mid new sifted four)
+-- a part of a stretch with the outlines near it, with which all its pairs of the rectangle are found
+pub record IsPart (rect : Extent) (first second a b : List Entry) (outlines xs ys slice near : List Outline) (from to : ℕ) : Type 0 where
+  pub same : AreSlices first second a b outlines xs slice near
+  pub order : from < to
+  pub sifted : Sifts (CellHit rect a b) (pairs_of (part_of xs from to) ys) (pairs_of (part_of xs from to) near)
 
-pub part_stepped : (rect : Extent) (first second a b : List Entry) (outlines xs ys slice near : List Outline) (from to old mid new : ℕ) → AreSlices first second a b outlines xs slice near → from < to
-    → Sifts (CellHit rect a b) (pairs_of (part_of xs from to) ys) (pairs_of (part_of xs from to) near) → mid ≤ old + count_by (is_cell_here rect) (pairs_of (take from xs) ys)
-    → new ≤ mid + count_by (is_cell_here rect) (pairs_of (part_of outlines from to) slice) → new ≤ old + count_by (is_cell_here rect) (pairs_of (take to xs) ys)
-part_stepped rect first second a b outlines xs ys slice near from to old mid new same lt sifted h k =
-    let three = subst (λ (l : List Outline). new ≤ mid + count_by (is_cell_here rect) (pairs_of (part_of l from to) slice)) same.of_outlines k in
-    let four = subst (λ (l : List Outline). new ≤ mid + count_by (is_cell_here rect) (pairs_of (part_of xs from to) l)) same.of_near three in
-    let less = count_sifted (is_cell_here rect) (CellHit rect a b) (pairs_of (part_of xs from to) ys) (pairs_of (part_of xs from to) near) sifted in
-    let all = count_to (is_cell_here rect) xs ys from to (omega (arith, lt)) in
-    omega (arith, h, four, less, all)
+pub part_is : (rect round window : Extent) {first second a b : List Entry} {outlines xs slice near : List Outline} (ys cleared : List Outline) (from to : ℕ) → AreSlices first second a b outlines xs slice near → from < to → to ≤ length xs
+    → ((k : ℕ) (e : Outline) → from ≤ k → k < to → encloses round (get_or xs k e).extent ≡ true) → All (λ (q : Outline). IsWide q.extent) ys
+    → window ≡ common_of round rect → cleared ≡ [] → Finds (IsInWindow window) itself ys cleared near → IsPart rect first second a b outlines xs ys slice near from to
+part_is rect round window {first} {second} {a} {b} {outlines} {xs} {slice} {near} ys cleared from to same lt end inside wide is none h = record {
+  same = same;
+  order = lt;
+  sifted = sifts_near rect round a b (part_of xs from to) ys near
+      (part_all (λ (p : Outline). encloses round p.extent ≡ true) xs from to (omega (arith, lt)) end (λ k e f t below. inside k e f t)) wide
+      (subst (λ (w : Extent). Keeps (IsInWindow w) ys near) is (found_kept (IsInWindow window) ys cleared near none h));
+}
+
+module _ {rect : Extent} {first second a b : List Entry} {outlines xs ys slice near : List Outline} {from to : ℕ} where
+  pub part_found : (old mid new : List Pair) → IsPart rect first second a b outlines xs ys slice near from to → Finds (CellHit rect a b) at_outlines (pairs_of (take from xs) ys) old mid
+      → Finds (CellHit rect first second) at_outlines (pairs_of (part_of outlines from to) slice) mid new → Finds (CellHit rect a b) at_outlines (pairs_of (take to xs) ys) old new
+  part_found old mid new part h k =
+      let one = subst (λ (l : List Entry). Finds (CellHit rect l second) at_outlines (pairs_of (part_of outlines from to) slice) mid new) part.same.of_first k in
+      let two = subst (λ (l : List Entry). Finds (CellHit rect a l) at_outlines (pairs_of (part_of outlines from to) slice) mid new) part.same.of_second one in
+      let three = subst (λ (l : List Outline). Finds (CellHit rect a b) at_outlines (pairs_of (part_of l from to) slice) mid new) part.same.of_outlines two in
+      let four = subst (λ (l : List Outline). Finds (CellHit rect a b) at_outlines (pairs_of (part_of xs from to) l) mid new) part.same.of_near three in
+      finds_to (CellHit rect a b) at_outlines xs ys from to old mid new (omega (arith, part.order)) h
+      (finds_sifted (CellHit rect a b) at_outlines (pairs_of (part_of xs from to) ys) (pairs_of (part_of xs from to) near) mid new part.sifted four)
+
+  pub part_stepped : (old mid new : ℕ) → IsPart rect first second a b outlines xs ys slice near from to → mid ≤ old + count_by (is_cell_here rect) (pairs_of (take from xs) ys)
+      → new ≤ mid + count_by (is_cell_here rect) (pairs_of (part_of outlines from to) slice) → new ≤ old + count_by (is_cell_here rect) (pairs_of (take to xs) ys)
+  part_stepped old mid new part h k =
+      let three = subst (λ (l : List Outline). new ≤ mid + count_by (is_cell_here rect) (pairs_of (part_of l from to) slice)) part.same.of_outlines k in
+      let four = subst (λ (l : List Outline). new ≤ mid + count_by (is_cell_here rect) (pairs_of (part_of xs from to) l)) part.same.of_near three in
+      let less = count_sifted (is_cell_here rect) (CellHit rect a b) (pairs_of (part_of xs from to) ys) (pairs_of (part_of xs from to) near) part.sifted in
+      let all = count_to (is_cell_here rect) xs ys from to (omega (arith, part.order)) in
+      omega (arith, h, four, less, all)

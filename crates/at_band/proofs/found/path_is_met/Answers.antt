@@ -1,12 +1,9 @@
 use Rattle.std.proofs.Common.{arith}
-use Rattle.at_geom.proofs.Crossings.{rest_in_range}
-use Rattle.at_geom.proofs.Elements.{untrue, not_in_edge}
+use Rattle.at_geom.proofs.Elements.{untrue, all_edges, not_in_edge}
 use Rattle.at_band.proofs.found.path_is_met.Goals as goal
 
-pub edge_is_met-requires-clause-d_in_range : goal.edge_is_met-requires-clause-d_in_range
-edge_is_met-requires-clause-d_in_range c = rest_in_range _ _ _ _ _ c.in-Some.ensures.cases.0 c.requires.path_in_range (omega arith)
+pub loop-to-init : goal.loop-to-init
+loop-to-init c = all_edges c.in-Some.ensures.cases.0 c.requires.path_in_range
 
 pub loop-to-preserved : goal.loop-to-preserved
-loop-to-preserved c =
-    let ranged = rest_in_range _ _ _ c.loop-to.to-index _ c.in-Some.ensures.cases.0 c.requires.path_in_range (omega arith) in
-    not_in_edge _ c.loop-to.invariant ranged (omega arith) (untrue _ c.if-edge_is_met.false c.edge_is_met.ensures.1)
+loop-to-preserved c = not_in_edge _ c.loop-to.invariant (omega arith) (untrue _ c.if-edge_is_met.false c.edge_is_met.ensures.1)

@@ -1,12 +1,9 @@
 use Rattle.std.proofs.Common.{arith}
-use Rattle.at_geom.proofs.Crossings.{rest_in_range}
-use Rattle.at_geom.proofs.Elements.{untrue, not_in_edge}
+use Rattle.at_geom.proofs.Elements.{untrue, all_edges, not_in_edge}
 use Rattle.at_geom.proofs.meetings.segment_meets_path.Goals as goal
 
-pub segments_meet-requires-clause-d_in_range : goal.segments_meet-requires-clause-d_in_range
-segments_meet-requires-clause-d_in_range c = rest_in_range _ _ _ _ _ c.in-Some.ensures.cases.0 c.requires.path_in_range (omega arith)
+pub loop-to-init : goal.loop-to-init
+loop-to-init c = all_edges c.in-Some.ensures.cases.0 c.requires.path_in_range
 
 pub loop-to-preserved : goal.loop-to-preserved
-loop-to-preserved c =
-    let ranged = rest_in_range _ _ _ c.loop-to.to-index _ c.in-Some.ensures.cases.0 c.requires.path_in_range (omega arith) in
-    not_in_edge _ c.loop-to.invariant ranged (omega arith) (untrue _ c.if-segments_meet.false c.segments_meet.ensures.1)
+loop-to-preserved c = not_in_edge _ c.loop-to.invariant (omega arith) (untrue _ c.if-segments_meet.false c.segments_meet.ensures.1)
