@@ -38,10 +38,9 @@ impl Extent {
     pub(crate) fn encloses(self, other: Extent) -> bool
         ensures { result ≡ encloses_of self other }
     {
-        if !lies_between(self.low.x, self.high.x, other.low.x, other.high.x) {
-            return false;
-        }
-        lies_between(self.low.y, self.high.y, other.low.y, other.high.y)
+        let along_x = lies_between(self.low.x, self.high.x, other.low.x, other.high.x);
+        let along_y = lies_between(self.low.y, self.high.y, other.low.y, other.high.y);
+        along_x && along_y
     }
 
     /// Whether the position is in this extent.

@@ -10,10 +10,9 @@ use at_query::{lower_corner, upper_corner};
 pub(crate) fn touch(x: Extent, y: Extent) -> bool
     ensures { result ≡ touch_of x y }
 {
-    if !are_ordered(x.low.x, y.high.x, y.low.x, x.high.x) {
-        return false;
-    }
-    are_ordered(x.low.y, y.high.y, y.low.y, x.high.y)
+    let along_x = are_ordered(x.low.x, y.high.x, y.low.x, x.high.x);
+    let along_y = are_ordered(x.low.y, y.high.y, y.low.y, x.high.y);
+    along_x && along_y
 }
 
 /// Whether the first number is at most the second, and the third at most the fourth.
