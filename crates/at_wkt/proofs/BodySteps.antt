@@ -3,7 +3,6 @@
 use Rattle.std.proofs.Common.{◌↔◌, ◌≡◌, ℕ, ◌+◌, ◌<◌, ◌≤◌, ◌⊎◌, inl, inr, Bool, true, false, not, ◌==◌, List, [], ◌∷◌, ◌++◌, length, codes, Option, Some, None, refl, sym, ◌∙◌, ap, subst, arith, true≢false, append_assoc}
 use Rattle.std.specs.Char.{to_ascii_uppercase}
 use Rattle.std.specs.Str.{str_to_ascii_uppercase}
-use Rattle.std.proofs.lemmas.List.{append_cancel_left}
 use Rattle.at_wkt.proofs.Names.{Many, Exactly, ◌▸◌, Dimension, Position, Positions, is_blank, SpellsPosition, InBrackets, Parted, EmptyWord, EmptyOrParted, SpellsRing, SpellsList, SpellsPoint, SpellsPointMember, between, opens, next, Spelt, Stuck, Leads, SkipsBlanks, Item, KeywordStands, KeywordBreaks, HasCount, EnclosedPosition}
 use Rattle.at_fixed.proofs.DigitParts.{part-part}
 use Rattle.at_wkt.proofs.Leads.{part-cons, ahead_stuck, Begins, Inhabited, same_or_less}

@@ -1,7 +1,6 @@
 -- Items with their delimiters, one behind another, in brackets.
 -- For `read_line`, `read_geometry` and `Room::check_line`: lists in brackets, read on.
 use Rattle.std.proofs.Common.{◌≡◌, ℕ, ◌+◌, ◌<◌, ◌≤◌, inl, inr, Bool, true, false, ◌==◌, List, [], ◌∷◌, ◌++◌, length, refl, sym, ◌∙◌, ap, subst, arith, append_assoc, true≢false, lit≤}
-use Rattle.std.proofs.lemmas.List.{append_cancel_left}
 use Rattle.at_wkt.proofs.Names.{OneOrMore, ◌▸◌, Numeral, Dimension, Open, Fixed, Position, is_blank, SpellsNumber, SpellsFurther, SpellsPosition, between, next, allows, allows_more, Allows, Spelt, Stuck, SkipsBlanks, delimiter, Delimiter, FurtherNumbers, is_delimiter, Reaches}
 use Rattle.at_text.specs.Parts.{At}
 use Rattle.at_fixed.proofs.DigitParts.{part-none}

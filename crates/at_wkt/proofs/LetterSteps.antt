@@ -3,7 +3,6 @@
 use Rattle.std.proofs.Common.{IsTrue, ◌≡◌, ℕ, ◌+◌, ◌<◌, ◌≤◌, ◌⊎◌, inl, inr, true, false, ◌==◌, List, [], ◌∷◌, ◌++◌, length, refl, sym, ◌∙◌, ap, subst, arith, append_assoc, length-append, lit≤}
 use Rattle.std.specs.Str.{str_to_ascii_uppercase}
 use Rattle.std.specs.Char.{to_ascii_uppercase}
-use Rattle.std.proofs.lemmas.List.{append_cancel_left}
 use Rattle.std.proofs.ByRecursion.{All-append}
 use Rattle.at_wkt.proofs.Names.{Many, ◌▸◌, Dimension, Open, Fixed, is_blank, Letter, between, opens, next, Allows, Spelt, Stuck, SkipsBlanks, LetterStands, Leads}
 use Rattle.at_wkt.specs.Readers.{LetterAt}

@@ -3,7 +3,7 @@
 use Rattle.std.proofs.Common.{lit<, ◌≡◌, ℕ, ◌+◌, ◌-◌, ◌<◌, ◌≤◌, Bool, true, false, ◌==◌, List, [], ◌∷◌, ◌++◌, length, map, flat_map, codes, Some, None, Result, refl, sym, ◌∙◌, ap, subst, arith, append-nil, append_assoc, true≢false}
 use native.Mathlib.Decide.{dec_lt}
 use Rattle.std.specs.Result.{MatchResult}
-use Rattle.at_wkt.proofs.Names.{Fault, first_of, Pos, Dimension, Halt, Rules, PositionRead, Role, Read, ItemRead, Position, Positions, position_faults, path_of, polygons_of, faults_of_area, SpellsPosition, SpellsRing, SpellsArea, SpellsPoint, SpellsPointMember, EmptyOrParted, is_blank, between, IfStopped, next, Spelt, Stuck, SkipsBlanks, Delimiter, Item, Items, HasCount, KeywordStands, KeywordBreaks, DelimiterStands, DelimiterBreaks, opens, PositionStands, PartStands, ItemStands, ItemsSoFar, Grows, EnclosedPosition, added_position, added_path, added_point, point_faults, faults_of_path}
+use Rattle.at_wkt.proofs.Names.{Fault, first_of, Pos, Dimension, Halt, Rules, PositionRead, Read, ItemRead, Position, Positions, position_faults, path_of, polygons_of, faults_of_area, SpellsPosition, SpellsRing, SpellsArea, SpellsPoint, SpellsPointMember, EmptyOrParted, is_blank, between, IfStopped, next, Spelt, Stuck, SkipsBlanks, Delimiter, Item, Items, HasCount, KeywordStands, KeywordBreaks, DelimiterStands, DelimiterBreaks, opens, PositionStands, PartStands, ItemStands, ItemsSoFar, Grows, EnclosedPosition, added_position, added_path, added_point, point_faults}
 use Rattle.at_geom.specs.declared.shapes.Polygon.{Polygon as PolygonOf}
 use Rattle.at_fixed.proofs.DigitParts.{part-part}
 use Rattle.at_wkt.proofs.Leads.{part-cons, Begins, Inhabited, counts}

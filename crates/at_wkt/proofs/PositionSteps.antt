@@ -1,7 +1,6 @@
 -- Positions: two numbers, further ones, and the delimiter behind them.
 -- For `read_line`, `read_geometry` and `Room::check_line`: the grammar of positions, read on.
 use Rattle.std.proofs.Common.{IsTrue, ◌≡◌, ◌≢◌, ℕ, zero, suc, ◌+◌, ◌-◌, ◌<◌, ◌⊎◌, inl, inr, Bool, true, false, ◌||◌, List, [], ◌∷◌, ◌++◌, length, codes, Option, Some, None, refl, sym, ◌∙◌, ap, subst, arith, append_assoc, length-append, true≢false}
-use Rattle.std.proofs.lemmas.List.{append_cancel_left}
 use Rattle.std.proofs.ByRecursion.{All-append}
 use Rattle.at_wkt.proofs.Names.{is_digit, is_one_of, ◌▸◌, Numeral, fraction_text, exponent_text, numeral_text, IsAtMostOneOf, AreWktDigits, IsWktNumeral, WktNumber, Dimension, is_blank, SpellsNumber, SpellsFurther, between, next, Allows, Stuck, Leads, SkipsBlanks, NumberBreaks, NumberSkips, delimiter, Delimiter, FurtherNumbers, Reaches, is_delimiter}
 use Rattle.at_fixed.proofs.DigitParts.{part-length}

@@ -50,7 +50,7 @@ use Rattle.at_wkt.specs.Meaning.{both, empty_shape, shape_of, shape_of_all, faul
 use Rattle.at_wkt.specs.Geometry.{Geometry, point, line_string, polygon, multi_point, multi_line_string, multi_polygon}
 use Rattle.at_wkt.specs.Geometry.{collection, Geometries, no_geometries, geometry_and, WktLine, SpellsGeometry}
 use Rattle.at_wkt.specs.Geometry.{SpellsGeometries, SpellsPoint, SpellsList, SpellsArea, EmptyOrParted}
-use Rattle.at_wkt.specs.Geometry.{SpellsPointMember, is_blank, SpellsFurther, SpellsPosition, SpellsRing, InBrackets}
+use Rattle.at_wkt.specs.Geometry.{SpellsPointMember, is_blank, SpellsFurther, SpellsPosition, InBrackets}
 use Rattle.at_wkt.specs.declared.line.dimension.Dimension.{Dimension}
 use Rattle.at_wkt.specs.declared.line.dimension.Dimension.TheVariants.{Open, Fixed}
 

@@ -14,9 +14,6 @@ rings-preserved c =
     let (fault, so_far) = c.rings.invariant in let (none, ring) = c.in_ok-ring.ensures in
     (ap (λ z. z.fault) c.next_item-last.ensures ∙ ap₂ first_fault fault none, so_far_more SpellsRing _ none_kept [] c.args.source.now.rules.base c.args.source.now.text.now (c.args.from.at + 1) c.args.from.dimension c.rings.last c.in_ok-ring.ring c.next_item-last.result [] [] so_far (not-true c.rings.last.is_last c.rings-test.true) ring c.next_item-last.ensures)
 
-pub rings-smaller : goal.rings-smaller
-rings-smaller c = omega (arith, c.in_ok-ring.ensures.1.longer, c.in_ok-ring.ensures.1.spelt.within, ap (λ z. z.behind.at) c.next_item-last.ensures)
-
 pub returns : goal.returns
 returns c =
     let rules = c.args.source.now.rules in let (fault, so_far) = c.rings.invariant in

@@ -1,4 +1,3 @@
-use Rattle.std.proofs.Common.{ap, arith}
 use Rattle.std.proofs.lemmas.Bool.{not-false, not-true}
 use Rattle.at_wkt.proofs.Names.{Stuck, Items}
 use Rattle.at_wkt.proofs.PathAnswers.{so_far_start, so_far_more, so_far_stuck}
@@ -12,9 +11,6 @@ members-init g c = so_far_start _ _ _ _ _ _ _ _ c.first_item-last.result c.first
 pub members-preserved : goal.members-preserved
 members-preserved g c = so_far_more _ _ _ _ _ _ _ _ c.members.last c.in_ok-member.member c.next_item-last.result _ _
     c.members.invariant (not-true c.members.last.is_last c.members-test.true) c.in_ok-member.ensures c.next_item-last.ensures
-
-pub members-smaller : goal.members-smaller
-members-smaller g c = omega (arith, c.in_ok-member.ensures.longer, c.in_ok-member.ensures.spelt.within, ap (λ z. z.behind.at) c.next_item-last.ensures)
 
 pub returns-in_err-member : goal.returns-in_err-member
 returns-in_err-member g c = exits c.from_residual.result c.in_err-member.field-0.0 _ (Stuck (Items g.M.Listed.spells) c.args.source.now.rules.base c.args.source.now.text.now c.members.last.behind.at c.members.last.behind.dimension) _ c.from_residual.ensures.1

@@ -1,5 +1,5 @@
-use Rattle.std.proofs.Common.{◌+◌, length, refl, ◌∙◌, ap}
-use Rattle.at_wkt.proofs.Names.{SpellsPosition, Items, Stuck, fault_of_path, first_fault}
+use Rattle.std.proofs.Common.{◌+◌, length, ◌∙◌, ap}
+use Rattle.at_wkt.proofs.Names.{SpellsPosition, Items, Stuck, fault_of_path}
 use Rattle.at_wkt.proofs.PathAnswers.{path_added, path_stuck}
 use Rattle.at_text.proofs.Exits.{exits}
 use Rattle.at_wkt.proofs.line.parts.read_path.Goals as goal

@@ -1,4 +1,4 @@
-use Rattle.std.proofs.Common.{◌≡◌, [], ◌∷◌, ◌++◌, refl, sym, ◌∙◌, ap, subst, arith}
+use Rattle.std.proofs.Common.{◌≡◌, [], ◌∷◌, ◌++◌, refl, sym, ◌∙◌, ap, subst}
 use Rattle.std.proofs.lemmas.Bool.{not-false, not-true}
 use Rattle.at_wkt.proofs.Names.{SpellsPosition, Item, Stuck, PositionsSoFar}
 use Rattle.at_wkt.proofs.PathAnswers.{positions_start, positions_more, positions_stuck, positions_stuck_first, positions_end}
@@ -19,9 +19,6 @@ positions-init c =
 pub positions-preserved : goal.positions-preserved
 positions-preserved c = positions_more c.args.source.now.rules c.args.source.now.text.now c.args.from.at c.args.from.dimension c.in_ok-first.first c.positions.last c.in_ok-last.last c.positions.path.items c.push-in-positions.new.self.items
     c.positions.fault c.add_fault-fault.result c.positions.invariant (not-true c.positions.last.is_last c.positions-test.true) c.in_ok-last.ensures c.in_ok-push-2.ensures.items c.add_fault-fault.ensures
-
-pub positions-smaller : goal.positions-smaller
-positions-smaller c = omega (arith, c.in_ok-last.ensures.longer, c.in_ok-last.ensures.spelt.within)
 
 pub returns-in_err-last : goal.returns-in_err-last
 returns-in_err-last c = exits c.from_residual-in_err-last.result c.in_err-last.field-0.0 _ (Stuck (Item SpellsPosition) c.args.source.now.rules.base c.args.source.now.text.now c.positions.last.behind.at c.positions.last.behind.dimension) _ c.from_residual-in_err-last.ensures.1
