@@ -127,6 +127,12 @@ last_or_further B D at v w r s (a, b, e, p, q) (c, d, f, m, n) line =
     let whole : a ++ (b ++ r) ≡ c ++ (d ++ s) = sym (append_assoc a b r) ∙ (ap (λ z. z ++ r) (sym e) ∙ (line ∙ (ap (λ z. z ++ s) f ∙ append_assoc c d s))) in
     absurd (true≢false (blank_delimiter 0 0 true false at a c (b ++ r) (d ++ s) p m whole).0)
 
+-- a geometry behind blanks, and what follows it
+one_next : (g h : Geometry) (gs hs : Geometries) → Agree (Spelling g) (Spelling h) (g ≡ h) → Agree (FurtherThen gs Nothing) (FurtherThen hs Nothing) (gs ≡ hs)
+    → Agree (Many is_blank ▸ (Spelling g ▸ FurtherThen gs Nothing)) (Many is_blank ▸ (Spelling h ▸ FurtherThen hs Nothing)) ((g ≡ h) × (gs ≡ hs))
+one_next g h gs hs one rest = agree_many is_blank (Spelling g ▸ FurtherThen gs Nothing) (Spelling h ▸ FurtherThen hs Nothing) (fails_then is_blank (Spelling g) (FurtherThen gs Nothing) (geometry_shuts g))
+    (fails_then is_blank (Spelling h) (FurtherThen hs Nothing) (geometry_shuts h)) (agree_then (Spelling g) (FurtherThen gs Nothing) (Spelling h) (FurtherThen hs Nothing) one rest)
+
 -- whatever two geometries are spelled at one offset, with whatever behind them, they are the same where the texts are
 mutual
   pub one_geometry : (g h : Geometry) → Agree (Spelling g) (Spelling h) (g ≡ h)
@@ -150,11 +156,7 @@ mutual
   one_all no_geometries (geometry_and h hs) at v w r s p q line = agree_turned (Members (geometry_and h hs)) EmptyWord (agree_apart is_open (Members (geometry_and h hs)) EmptyWord (members_open h hs) empty_fails) at v w r s p q line
   one_all (geometry_and g gs) no_geometries at v w r s p q line = agree_apart is_open (Members (geometry_and g gs)) EmptyWord (members_open g gs) empty_fails at v w r s p q line
   one_all (geometry_and g gs) (geometry_and h hs) at v w r s p q line =
-      let inner : Agree (Spelling g ▸ FurtherThen gs Nothing) (Spelling h ▸ FurtherThen hs Nothing) ((g ≡ h) × (gs ≡ hs)) =
-      agree_then (Spelling g) (FurtherThen gs Nothing) (Spelling h) (FurtherThen hs Nothing) (one_geometry g h) (one_further gs hs) in
-      let (same, text) = agree_then (Exactly (codes "(")) (Many is_blank ▸ (Spelling g ▸ FurtherThen gs Nothing)) (Exactly (codes "(")) (Many is_blank ▸ (Spelling h ▸ FurtherThen hs Nothing)) (agree_exactly (codes "("))
-      (agree_many is_blank (Spelling g ▸ FurtherThen gs Nothing) (Spelling h ▸ FurtherThen hs Nothing) (fails_then is_blank (Spelling g) (FurtherThen gs Nothing) (geometry_shuts g))
-      (fails_then is_blank (Spelling h) (FurtherThen hs Nothing) (geometry_shuts h)) inner) at v w r s (members_plain g gs at v p) (members_plain h hs at w q) line in
+      let (same, text) = agree_then (Exactly (codes "(")) (Many is_blank ▸ (Spelling g ▸ FurtherThen gs Nothing)) (Exactly (codes "(")) (Many is_blank ▸ (Spelling h ▸ FurtherThen hs Nothing)) (agree_exactly (codes "(")) (one_next g h gs hs (one_geometry g h) (one_further gs hs)) at v w r s (members_plain g gs at v p) (members_plain h hs at w q) line in
       (ap (λ z. geometry_and z gs) same.1.0 ∙ ap (λ z. geometry_and h z) same.1.1, text)
 
   one_further : (gs hs : Geometries) → Agree (FurtherThen gs Nothing) (FurtherThen hs Nothing) (gs ≡ hs)
@@ -162,11 +164,7 @@ mutual
   one_further no_geometries (geometry_and h hs) at v w r s p q line = last_or_further Nothing (Many is_blank ▸ (Spelling h ▸ FurtherThen hs Nothing)) at v w r s p q line
   one_further (geometry_and g gs) no_geometries at v w r s p q line = agree_turned (Delimiter 0 true ▸ Nothing) (Delimiter 0 false ▸ (Many is_blank ▸ (Spelling g ▸ FurtherThen gs Nothing))) (last_or_further Nothing (Many is_blank ▸ (Spelling g ▸ FurtherThen gs Nothing))) at v w r s p q line
   one_further (geometry_and g gs) (geometry_and h hs) at v w r s p q line =
-      let inner : Agree (Spelling g ▸ FurtherThen gs Nothing) (Spelling h ▸ FurtherThen hs Nothing) ((g ≡ h) × (gs ≡ hs)) =
-      agree_then (Spelling g) (FurtherThen gs Nothing) (Spelling h) (FurtherThen hs Nothing) (one_geometry g h) (one_further gs hs) in
-      let (same, text) = agree_then (Delimiter 0 false) (Many is_blank ▸ (Spelling g ▸ FurtherThen gs Nothing)) (Delimiter 0 false) (Many is_blank ▸ (Spelling h ▸ FurtherThen hs Nothing)) (blank_delimiter 0 0 false false)
-      (agree_many is_blank (Spelling g ▸ FurtherThen gs Nothing) (Spelling h ▸ FurtherThen hs Nothing) (fails_then is_blank (Spelling g) (FurtherThen gs Nothing) (geometry_shuts g))
-      (fails_then is_blank (Spelling h) (FurtherThen hs Nothing) (geometry_shuts h)) inner) at v w r s p q line in
+      let (same, text) = agree_then (Delimiter 0 false) (Many is_blank ▸ (Spelling g ▸ FurtherThen gs Nothing)) (Delimiter 0 false) (Many is_blank ▸ (Spelling h ▸ FurtherThen hs Nothing)) (blank_delimiter 0 0 false false) (one_next g h gs hs (one_geometry g h) (one_further gs hs)) at v w r s p q line in
       (ap (λ z. geometry_and z gs) same.1.0 ∙ ap (λ z. geometry_and h z) same.1.1, text)
 
 -- ---- the laws
