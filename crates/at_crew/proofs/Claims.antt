@@ -1,21 +1,22 @@
 -- A claim keeps the rule: below k it takes the leaf's slot, and past k it ends the pass.
 -- For most public calls of the crate, `claim`, `close`, `pass` among them.
-use Rattle.std.proofs.Common.{◌≡◌, ◌≢◌, ℕ, suc, ◌+◌, ◌*◌, ◌/◌, ◌%◌, ◌^◌, ◌<◌, ◌≤◌, ◌⊎◌, Option, Some, None, Bool, true, false, true≢false, List, set, length, sum_by, slice_index, slice_set, refl, sym, ap, ◌∙◌, subst, inl, inr, ⊎_elim, arith, length-set}
+use Rattle.std.proofs.Common.{◌≡◌, ℕ, suc, ◌+◌, ◌*◌, ◌/◌, ◌%◌, ◌^◌, ◌<◌, ◌≤◌, ◌⊎◌, Option, Some, None, Bool, true, false, true≢false, List, set, length, sum_by, slice_index, slice_set, refl, sym, ap, ◌∙◌, subst, inl, inr, ⊎_elim, arith, length-set}
 use mathlib.Core.Option.{some, none}
 use lib.ListN.{get_elem?}
 use native.Mathlib.Decide.{dec_le, ℕ_discrete}
 use Rattle.atomic_table.specs.Table.{State, Act, keeps, takes, Valid, Allows, stepped, carried_after, step}
-use Rattle.atomic_table.proofs.Lists.{at_set, set_else}
+use Rattle.atomic_table.proofs.Lists.{set_else}
 use Rattle.at_crew.specs.declared.view.HeldNode.{HeldNode}
 use Rattle.at_crew.specs.declared.view.Climber.{Climber}
 use Rattle.at_crew.specs.declared.view.View.{View}
 use Rattle.at_crew.specs.declared.view.View.TheVariants.{Spent, Climbs, Leads}
 use Rattle.at_crew.specs.Nodes.{IsNode, first_of, Made, Settled, IsTop}
-use Rattle.at_crew.specs.Views.{one_if, times, held_node, is_at, leads, lives, is_over, made, back, has_number, holds, claimed, merged, claiming, ending, is_pass, held_of, over_of}
-use Rattle.at_crew.specs.Rule.{OneWhere, Knows, PassesCounted, WordsMarked, WorkListed, PartsStored, CrewRule}
+use Rattle.at_crew.specs.Views.{one_if, times, held_node, is_at, lives, is_over, holds, claimed, claiming, ending, is_pass, held_of, over_of}
+use Rattle.at_crew.specs.Rule.{OneWhere, PassesCounted, WordsMarked, WorkListed, PartsStored, CrewRule}
 use Rattle.at_crew.specs.Steps.{ClaimTells}
 use Rattle.at_crew.proofs.Tree.{leaf_node, spans_first, node_pos, node_bound, first_small, pow_pos}
 use Rattle.at_crew.proofs.Above.{all_claimed}
+use Rattle.at_crew.proofs.Alike.{SameThrees, counted_on, merges_on}
 use Rattle.at_crew.proofs.Sums.{sum_at, sum_same, sum_more, sum_gap, hit, miss, times_more, counts_same, counts_zero, word_here, word_else}
 
 pub some-inj : {A : Type 0} {a b : A} → Some a ≡ Some b → a ≡ b
@@ -59,16 +60,6 @@ module _ (k : ℕ) (words words' : List ℕ) (c' : ℕ) (b : Bumped words words'
     below = λ n p lt s. made_more n p (m.below n p lt (settled_same pos n s));
   }
 
-module _ {F : Type 0} (f : F) (k : ℕ) where
-  pub knows_more : (c c' : ℕ) → c ≤ c' → (v : View F) → Knows f k c v → Knows f k c' v
-  knows_more c c' le (Climbs v) h = (h.0, (λ x e. (let l = h.1 x e in omega (arith, l, le))), h.2, h.3)
-  knows_more c c' le _ h = h
-
-  -- all views but one are as they were
-  pub each_set : (c c' : ℕ) → c ≤ c' → (views : List (View F)) (id : ℕ) (w : View F) → Knows f k c' w → ((j : ℕ) (v : View F) → get_elem? views j ≡ some v → Knows f k c v)
-      → (j : ℕ) (v : View F) → get_elem? (set views id w) j ≡ some v → Knows f k c' v
-  each_set c c' le views id w mine all j v e = ⊎_elim (λ (x : (j ≡ id) × (w ≡ v)). subst (λ (u : View F). Knows f k c' u) x.1 mine) (λ (x : (j ≢ id) × (get_elem? views j ≡ some v)). knows_more c c' le v (all j v x.1)) (at_set views id j w v e)
-
 module _ {P F : Type 0} (stands : F → P → ℕ → ℕ → Type 0) (f : F) (k : ℕ) (s : State (Option P) (View F)) (good : CrewRule stands f k s) where
   pub some_blocks : 0 < k
   some_blocks = let p = pow_pos good.power.0 in omega (arith, p, good.power.1)
@@ -100,12 +91,18 @@ module _ {P F : Type 0} (stands : F → P → ℕ → ℕ → Type 0) (f : F) (k
   step_up : c ≤ c + 1
   step_up = omega arith
 
+  threes : SameThrees k s.words words'
+  threes n p lt = (λ e. sym (bump.others n p) ∙ e, λ e. bump.others n p ∙ e)
+
   -- before, the pass counted for no node
   idle : (n : ℕ) → holds n (Climbs v) ≡ 0
   idle n = ap (is_at n) free
 
   not_over : is_over (Climbs v) ≡ 0
   not_over = ap one_if on
+
+  pub facts_are : v.facts ≡ f
+  facts_are = (good.counted.each id (Climbs v) at).0
 
   -- the leaf of c was not made, so nothing settled it
   leaf_new : c < k → ¬ (Settled k s.words (k + c))
@@ -137,9 +134,7 @@ module _ {P F : Type 0} (stands : F → P → ℕ → ℕ → Type 0) (f : F) (k
   claim_listed lt = record {
     held = claim_held lt;
     claims = λ x. listed x (ℕ_discrete c x);
-    merges = λ x. counts_same _ _ (sum_by (λ u. times x (merged u)) s.views) _
-        (λ h. (h.0, h.1, bump.others x h.0 ∙ h.2)) (λ h. (h.0, h.1, sym (bump.others x h.0) ∙ h.2))
-        (sum_same (λ u. times x (merged u)) s.views id (Climbs v) (Climbs now) at refl) (good.listed.merges x);
+    merges = merges_on k s.views id v now at s.words words' refl threes good.listed;
   }
     where
       listed : (x : ℕ) → Dec (c ≡ x) → OneWhere ((x < slice_index words' 0) × (x < k)) (sum_by (λ u. times x (claimed u)) (set s.views id (Climbs now)))
@@ -153,16 +148,13 @@ module _ {P F : Type 0} (stands : F → P → ℕ → ℕ → Type 0) (f : F) (k
           counts_same _ _ (sum_by (λ u. times x (claimed u)) s.views) _ (λ h. (omega (arith, z, h.0), h.1)) (λ h. (omega (arith, z, h.0, ne), h.1)) (omega (arith, same)) (good.listed.claims x)
 
   claim_counted : c < k → PassesCounted f k (slice_index words' 0) (set s.views id (Climbs now))
-  claim_counted lt = let g = good.counted in let z = bump.zero_is in record {
-    chief = sum_same leads s.views id (Climbs v) (Climbs now) at refl ∙ g.chief;
-    living = (let a = sum_same lives s.views id (Climbs v) (Climbs now) at refl in let b = sum_same back s.views id (Climbs v) (Climbs now) at refl in let d = sum_same made s.views id (Climbs v) (Climbs now) at refl in let l = g.living in omega (arith, a, b, d, l));
-    few = (let d = sum_same made s.views id (Climbs v) (Climbs now) at refl in let l = g.few in omega (arith, d, l));
-    ended = (let a = sum_same is_over s.views id (Climbs v) (Climbs now) at (sym not_over) in let b = sum_same back s.views id (Climbs v) (Climbs now) at refl in let l = g.ended in omega (arith, a, b, l, z, lt));
-    numbers = λ x. (let a = sum_same (has_number x) s.views id (Climbs v) (Climbs now) at refl in let d = sum_same made s.views id (Climbs v) (Climbs now) at refl in let l = g.numbers x in
-        (omega (arith, a, l.0), λ h. a ∙ l.1 (omega (arith, d, h))));
-    each = each_set f k c (slice_index words' 0) (omega (arith, z)) s.views id (Climbs now)
-        (((g.each id (Climbs v) at).0), (λ x e. (let y : c ≡ x = some-inj e in omega (arith, y, z))), (λ p e. (let q : held_node (k + c) 0 ≡ p = some-inj e in (good.power.0, subst (λ (r : HeldNode). IsNode k good.power.0 r.height r.node) q (leaf_node k good.power.0 c good.power.1 lt)))), (λ e. absurd (true≢false (sym e)))) g.each;
-  }
+  claim_counted lt = let z = bump.zero_is in
+      counted_on k s.views id v now at f c (slice_index words' 0) 0 refl (ap (λ n. n + 0) (sym not_over)) (omega (arith, z)) (omega (arith, z, lt)) (
+        facts_are,
+        (λ x e. (let y : c ≡ x = some-inj e in omega (arith, y, z))),
+        (λ p e. (let q : held_node (k + c) 0 ≡ p = some-inj e in (good.power.0, subst (λ (r : HeldNode). IsNode k good.power.0 r.height r.node) q (leaf_node k good.power.0 c good.power.1 lt)))),
+        (λ e. absurd (true≢false (sym e))),
+      ) good.counted
 
   claim_stored : c < k → PartsStored stands f k words' (set s.homes c none)
   claim_stored lt = let z = bump.zero_is in record {
@@ -201,22 +193,13 @@ module _ {P F : Type 0} (stands : F → P → ℕ → ℕ → Type 0) (f : F) (k
     held = end_held le;
     claims = λ x. counts_same _ _ (sum_by (λ u. times x (claimed u)) s.views) _ (λ h. (omega (arith, z, h.0), h.1)) (λ h. (omega (arith, le, h.1), h.1))
         (sum_same (λ u. times x (claimed u)) s.views id (Climbs v) (Climbs last) at refl) (good.listed.claims x);
-    merges = λ x. counts_same _ _ (sum_by (λ u. times x (merged u)) s.views) _
-        (λ h. (h.0, h.1, bump.others x h.0 ∙ h.2)) (λ h. (h.0, h.1, sym (bump.others x h.0) ∙ h.2))
-        (sum_same (λ u. times x (merged u)) s.views id (Climbs v) (Climbs last) at refl) (good.listed.merges x);
+    merges = merges_on k s.views id v last at s.words words' refl threes good.listed;
   }
 
   end_counted : k ≤ c → PassesCounted f k (slice_index words' 0) (set s.views id (Climbs last))
-  end_counted le = let g = good.counted in let z = bump.zero_is in record {
-    chief = sum_same leads s.views id (Climbs v) (Climbs last) at refl ∙ g.chief;
-    living = (let a = sum_same lives s.views id (Climbs v) (Climbs last) at refl in let b = sum_same back s.views id (Climbs v) (Climbs last) at refl in let d = sum_same made s.views id (Climbs v) (Climbs last) at refl in let l = g.living in omega (arith, a, b, d, l));
-    few = (let d = sum_same made s.views id (Climbs v) (Climbs last) at refl in let l = g.few in omega (arith, d, l));
-    ended = (let a = sum_more is_over 1 s.views id (Climbs v) (Climbs last) at (ap (λ n. n + 1) (sym not_over)) in let b = sum_same back s.views id (Climbs v) (Climbs last) at refl in let l = g.ended in omega (arith, a, b, l, z, le));
-    numbers = λ x. (let a = sum_same (has_number x) s.views id (Climbs v) (Climbs last) at refl in let d = sum_same made s.views id (Climbs v) (Climbs last) at refl in let l = g.numbers x in
-        (omega (arith, a, l.0), λ h. a ∙ l.1 (omega (arith, d, h))));
-    each = each_set f k c (slice_index words' 0) (omega (arith, z)) s.views id (Climbs last)
-        (((g.each id (Climbs v) at).0), (λ x e. (let y : c ≡ x = some-inj e in omega (arith, y, z))), (λ p e. absurd (some≢none (sym e))), (λ e. refl)) g.each;
-  }
+  end_counted le = let z = bump.zero_is in
+      counted_on k s.views id v last at f c (slice_index words' 0) 1 refl (ap (λ n. n + 1) (sym not_over)) (omega (arith, z)) (omega (arith, z, le))
+      (facts_are, (λ x e. (let y : c ≡ x = some-inj e in omega (arith, y, z))), (λ p e. absurd (some≢none (sym e))), (λ e. refl)) good.counted
 
   end_stored : k ≤ c → PartsStored stands f k words' s.homes
   end_stored le = let z = bump.zero_is in record {
@@ -251,9 +234,6 @@ module _ {P F : Type 0} (stands : F → P → ℕ → ℕ → Type 0) (f : F) (k
 
   pub below_last : (x : ℕ) → v.last ≡ Some x → x < c
   below_last = (good.counted.each id (Climbs v) at).1
-
-  pub facts_are : v.facts ≡ f
-  facts_are = (good.counted.each id (Climbs v) at).0
 
 module _ {P F : Type 0} (stands : F → P → ℕ → ℕ → Type 0) (count : F → ℕ) (f : F) where
   claims_of : (id : ℕ) (v : Climber F) (carried : List (ℕ × Option P)) → v.held ≡ None → v.over ≡ false

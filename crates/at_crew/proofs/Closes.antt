@@ -1,6 +1,6 @@
 -- Once no pass is away, and one was made, the whole lies in slot 0, and all blocks and inner nodes stand in the chief's lists.
 -- For `close` and `run_crew`.
-use Rattle.std.proofs.Common.{◌≡◌, ◌≢◌, ℕ, zero, suc, ◌+◌, ◌-◌, ◌*◌, ◌/◌, ◌^◌, ◌<◌, ◌≤◌, ◌==◌, Option, Some, None, Bool, true, false, true≢false, List, length, sum_by, slice_index, refl, sym, ap, ◌∙◌, subst, inl, inr, ⊎_elim, arith}
+use Rattle.std.proofs.Common.{◌≡◌, ◌≢◌, ℕ, zero, suc, ◌+◌, ◌-◌, ◌*◌, ◌/◌, ◌^◌, ◌<◌, ◌≤◌, ◌==◌, Option, Some, None, Bool, true, false, true≢false, List, [], length, sum_by, slice_index, refl, sym, ap, ◌∙◌, subst, inl, inr, ⊎_elim, arith}
 use mathlib.Core.Option.{some, some-injective}
 use lib.ListN.{get_elem?}
 use native.Mathlib.Decide.{dec_le, ℕ_discrete}
@@ -95,24 +95,19 @@ module _ {P F : Type 0} (stands : F → P → ℕ → ℕ → Type 0) (f : F) (k
       let a : first_of k good.power.0 1 ≡ 0 = omega (arith, e) in let b : end_of k good.power.0 1 ≡ k = omega (arith, e) in
       (r.0, ap (get_elem? s.homes) (sym a) ∙ r.1, subst (λ (z : ℕ × ℕ). stands f r.0 z.0 z.1) (λ i. (a i, b i)) r.2)
 
+  only : (v : View F) → leads v ≡ 0 → lives v ≡ 0 → (claimed v ≡ []) × (merged v ≡ [])
+  only Spent a b = (refl, refl)
+  only (Climbs v) a b = absurd (omega (arith, b))
+  only (Leads v) a b = absurd (omega (arith, a))
+
   pub all_claimed_once : (x : ℕ) → OneWhere (x < k) (times x h.claimed)
-  all_claimed_once x = let c = past in counts_same _ _ (sum_by (λ u. times x (claimed u)) s.views) _ (λ y. y.1) (λ y. (omega (arith, y, c), y)) (sym (sum_only leads lives (λ u. times x (claimed u)) only s.views id (Leads h) at good.counted.chief none_lives)) (good.listed.claims x)
-    where
-      only : (v : View F) → leads v ≡ 0 → lives v ≡ 0 → times x (claimed v) ≡ 0
-      only Spent a b = refl
-      only (Climbs v) a b = absurd (omega (arith, b))
-      only (Leads v) a b = absurd (omega (arith, a))
+  all_claimed_once x = let c = past in counts_same _ _ (sum_by (λ u. times x (claimed u)) s.views) _ (λ y. y.1) (λ y. (omega (arith, y, c), y)) (sym (sum_only leads lives (λ u. times x (claimed u)) (λ v a b. ap (times x) (only v a b).0) s.views id (Leads h) at good.counted.chief none_lives)) (good.listed.claims x)
 
   pub all_merged_once : (x : ℕ) → OneWhere ((0 < x) × (x < k)) (times x h.merged)
-  all_merged_once x = counts_same _ _ (sum_by (λ u. times x (merged u)) s.views) _ (λ y. (y.0, y.1)) (λ y. (y.0, y.1, three y.0 y.1)) (sym (sum_only leads lives (λ u. times x (merged u)) only s.views id (Leads h) at good.counted.chief none_lives)) (good.listed.merges x)
+  all_merged_once x = counts_same _ _ (sum_by (λ u. times x (merged u)) s.views) _ (λ y. (y.0, y.1)) (λ y. (y.0, y.1, three y.0 y.1)) (sym (sum_only leads lives (λ u. times x (merged u)) (λ v a b. ap (times x) (only v a b).1) s.views id (Leads h) at good.counted.chief none_lives)) (good.listed.merges x)
     where
       three : 0 < x → x < k → slice_index s.words x ≡ 3
       three p lt = let n = some_node k good.power.0 x good.power.1 p (omega (arith, lt)) in ⊎_elim (λ m. absurd (omega (arith, m.0, lt))) (λ m. m.1) (all_made_at n.1 n.0 x n.2)
-
-      only : (v : View F) → leads v ≡ 0 → lives v ≡ 0 → times x (merged v) ≡ 0
-      only Spent a b = refl
-      only (Climbs v) a b = absurd (omega (arith, b))
-      only (Leads v) a b = absurd (omega (arith, a))
 
 -- the same, of the table at its end, where slot 0 was read
 module _ {P F : Type 0} (stands : F → P → ℕ → ℕ → Type 0) (f : F) (k b id : ℕ) (w : View F) (ws : List ℕ) (xs : List (Option P)) (end : Final (Seen (CrewRule stands f k) id w) ws xs) (is : is_chief w ≡ true) (home : made w ≡ back w) (some_made : 0 < made w) (long : length xs ≡ b) where

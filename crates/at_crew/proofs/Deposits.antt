@@ -16,7 +16,8 @@ use Rattle.at_crew.specs.Steps.{DepositTells, RootHomeTells, carried, kept as ke
 use Rattle.at_crew.proofs.Tree.{Spans, spans_first, spans_right, spans_parent, first_small, node_bound}
 use Rattle.at_crew.proofs.Claims.{some≢none}
 use Rattle.at_crew.proofs.Turns.{turned_at, Laid, laid_same, laid_set, or_first, or_second, found_words}
-use Rattle.at_crew.proofs.Firsts.{Holds, holds_node, first_kept}
+use Rattle.at_crew.proofs.Firsts.{first_kept}
+use Rattle.at_crew.proofs.Rests.{Holds, holds_node}
 use Rattle.at_crew.proofs.Seconds.{second_kept, sib_home, sib_apart, sib_inside}
 use Rattle.at_crew.proofs.Roots.{root_kept, nobody}
 

@@ -13,23 +13,20 @@ use Rattle.at_crew.specs.declared.view.View.TheVariants.{Spent, Climbs, Leads}
 use Rattle.at_crew.specs.Views.{one_if, times, is_at, leads, lives, is_over, made, back, has_number, holds, claimed, merged, newcomer, hires, hired, gathers, is_chief, is_pass, over_of}
 use Rattle.at_crew.specs.Rule.{Knows, PassesCounted, WorkListed, CrewRule}
 use Rattle.at_crew.proofs.Sums.{sum_at, sum_more, sum_ge, sum_only, sum_zeros, sum_push, hit, miss, times_both, counts_same}
-use Rattle.at_crew.proofs.Claims.{each_set, some≢none}
+use Rattle.at_crew.proofs.Alike.{each_set}
+use Rattle.at_crew.proofs.Claims.{some≢none}
 
 module _ {F : Type 0} (f : F) (k c : ℕ) (views : List (View F)) (g : PassesCounted f k c views) (id : ℕ) (h : Leader F) (at : get_elem? views id ≡ some (Leads h)) where
+  only : (v : View F) → leads v ≡ 0 → (made v ≡ 0) × (back v ≡ 0)
+  only (Leads v) a = absurd (omega (arith, a))
+  only _ a = (refl, refl)
+
   -- the chief's numbers are those of all views
   pub all_made : sum_by made views ≡ h.made
-  all_made = sum_only leads (λ (v : View F). 0) made (λ v a b. only v a) views id (Leads h) at g.chief (sum_zeros views)
-    where
-      only : (v : View F) → leads v ≡ 0 → made v ≡ 0
-      only (Leads v) a = absurd (omega (arith, a))
-      only _ a = refl
+  all_made = sum_only leads (λ (v : View F). 0) made (λ v a b. (only v a).0) views id (Leads h) at g.chief (sum_zeros views)
 
   pub all_back : sum_by back views ≡ h.back
-  all_back = sum_only leads (λ (v : View F). 0) back (λ v a b. only v a) views id (Leads h) at g.chief (sum_zeros views)
-    where
-      only : (v : View F) → leads v ≡ 0 → back v ≡ 0
-      only (Leads v) a = absurd (omega (arith, a))
-      only _ a = refl
+  all_back = sum_only leads (λ (v : View F). 0) back (λ v a b. (only v a).1) views id (Leads h) at g.chief (sum_zeros views)
 
 module _ {P F : Type 0} (stands : F → P → ℕ → ℕ → Type 0) (f : F) (k : ℕ) where
   hires_at : (id : ℕ) (h : Leader F) → h.made < 64 → Splits (CrewRule stands f k) id (Leads h) (hires (Leads h)) (hired (Leads h))

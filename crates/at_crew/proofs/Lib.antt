@@ -1,8 +1,10 @@
 pub mod Tree
 mod Above
 mod Sums
+mod Alike
 mod Claims
 mod Turns
+mod Rests
 mod Firsts
 mod Seconds
 mod Roots

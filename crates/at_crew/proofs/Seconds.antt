@@ -11,14 +11,15 @@ use Rattle.at_crew.specs.declared.view.Climber.{Climber}
 use Rattle.at_crew.specs.declared.view.View.{View}
 use Rattle.at_crew.specs.declared.view.View.TheVariants.{Climbs}
 use Rattle.at_crew.specs.Nodes.{IsNode, first_of, end_of, bit_of, sibling, Made, Settled, IsTop}
-use Rattle.at_crew.specs.Views.{times, held_node, is_at, leads, lives, is_over, made, back, has_number, holds, claimed, merged, climbing}
+use Rattle.at_crew.specs.Views.{times, held_node, is_at, holds, merged, climbing}
 use Rattle.at_crew.specs.Rule.{OneWhere, PassesCounted, WordsMarked, WorkListed, PartsStored, CrewRule}
 use Rattle.at_crew.proofs.Tree.{Spans, spans_first, node_pos, node_bound, two_children, sibling_bit, sibling_parent, sibling_other, above_node, child_node, spans_parent}
 use Rattle.at_crew.proofs.Above.{apart, all_claimed, held_is_top}
 use Rattle.at_crew.proofs.Sums.{sum_same, sum_less, sum_more, hit, miss, times_more, counts_same, counts_one, counts_zero}
-use Rattle.at_crew.proofs.Claims.{each_set, some-inj, some≢none}
+use Rattle.at_crew.proofs.Alike.{counted_on, claims_on}
+use Rattle.at_crew.proofs.Claims.{some-inj, some≢none}
 use Rattle.at_crew.proofs.Turns.{Turned, Laid}
-use Rattle.at_crew.proofs.Firsts.{Holds, holds_node}
+use Rattle.at_crew.proofs.Rests.{Holds, holds_node}
 
 module _ {P F : Type 0} (stands : F → P → ℕ → ℕ → Type 0) (f : F) (k : ℕ) (s : State (Option P) (View F)) (good : CrewRule stands f k s) (id : ℕ) (v : Climber F) (at : get_elem? s.views id ≡ some (Climbs v))
     (n h : ℕ) (held : v.held ≡ Some (held_node n h)) (deep : 1 < n) (words' : List ℕ) (turn : Turned s.words words' (n / 2) 3) (somebody : slice_index s.words (n / 2) + bit_of n ≡ 3) where
@@ -148,8 +149,7 @@ module _ {P F : Type 0} (stands : F → P → ℕ → ℕ → Type 0) (f : F) (k
   second_listed : WorkListed k words' (set s.views id (Climbs next))
   second_listed = record {
     held = second_held;
-    claims = λ x. (let z = zero_same in counts_same _ _ (sum_by (λ u. times x (claimed u)) s.views) _ (λ y. (omega (arith, z, y.0), y.1)) (λ y. (omega (arith, z, y.0), y.1))
-        (sum_same (λ u. times x (claimed u)) s.views id (Climbs v) (Climbs next) at refl) (good.listed.claims x));
+    claims = claims_on k s.views id v next at s.words words' refl zero_same good.listed;
     merges = λ x. merges x (ℕ_discrete p x);
   }
     where
@@ -162,20 +162,13 @@ module _ {P F : Type 0} (stands : F → P → ℕ → ℕ → Type 0) (f : F) (k
           counts_same _ _ (sum_by (λ u. times x (merged u)) s.views) _ (λ y. (y.0, y.1, w ∙ y.2)) (λ y. (y.0, y.1, sym w ∙ y.2)) (omega (arith, same)) (good.listed.merges x)
 
   second_counted : PassesCounted f k (slice_index words' 0) (set s.views id (Climbs next))
-  second_counted = let g = good.counted in let z = zero_same in let a = sum_same lives s.views id (Climbs v) (Climbs next) at refl in let b = sum_same back s.views id (Climbs v) (Climbs next) at refl in
-      let d = sum_same made s.views id (Climbs v) (Climbs next) at refl in let o = sum_same is_over s.views id (Climbs v) (Climbs next) at refl in let my = g.each id (Climbs v) at in record {
-        chief = sum_same leads s.views id (Climbs v) (Climbs next) at refl ∙ g.chief;
-        living = (let l = g.living in omega (arith, a, b, d, l));
-        few = (let l = g.few in omega (arith, d, l));
-        ended = (let l = g.ended in omega (arith, o, b, l, z));
-        numbers = λ x. (let e = sum_same (has_number x) s.views id (Climbs v) (Climbs next) at refl in let l = g.numbers x in (omega (arith, e, l.0), λ y. e ∙ l.1 (omega (arith, d, y))));
-        each = each_set f k (slice_index s.words 0) (slice_index words' 0) (omega (arith, z)) s.views id (Climbs next) (
-          my.0,
-          (λ x e. (let l = my.1 x e in omega (arith, l, z))),
-          (λ r e. (let q : held_node p (h + 1) ≡ r = some-inj e in let up : suc h ≡ h + 1 = omega arith in (parent.0, subst (λ (t : HeldNode). IsNode k parent.0 t.height t.node) q (subst (λ (i : ℕ). IsNode k parent.0 i p) up parent.1)))),
-          (λ e. absurd (some≢none (sym held ∙ my.3 e))),
-        ) g.each;
-      }
+  second_counted = let z = zero_same in let my = good.counted.each id (Climbs v) at in
+      counted_on k s.views id v next at f (slice_index s.words 0) (slice_index words' 0) 0 refl (omega arith) (omega (arith, z)) (omega (arith, z)) (
+        my.0,
+        (λ x e. (let l = my.1 x e in omega (arith, l, z))),
+        (λ r e. (let q : held_node p (h + 1) ≡ r = some-inj e in let up : suc h ≡ h + 1 = omega arith in (parent.0, subst (λ (t : HeldNode). IsNode k parent.0 t.height t.node) q (subst (λ (i : ℕ). IsNode k parent.0 i p) up parent.1)))),
+        (λ e. absurd (some≢none (sym held ∙ my.3 e))),
+      ) good.counted
 
   p_top : IsTop k words' p
   p_top = held_is_top k words' second_marked p p_pos p_loose_now
