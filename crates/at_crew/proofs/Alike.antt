@@ -1,14 +1,16 @@
 -- What a pass's step keeps of the counts, where its new view counts as the one before.
 -- For `claim`, `run_crew`, `settle` and `work`.
-use Rattle.std.proofs.Common.{◌≡◌, ◌≢◌, ℕ, ◌+◌, ◌-◌, ◌<◌, ◌≤◌, List, set, sum_by, slice_index, ap, ◌∙◌, refl, subst, ⊎_elim, arith}
+use Rattle.std.proofs.Common.{◌≡◌, ◌≢◌, ℕ, ◌+◌, ◌-◌, ◌<◌, ◌≤◌, List, set, sum_by, slice_index, ap, ◌∙◌, refl, subst, ⊎_elim, arith, Option, length}
 use mathlib.Core.Option.{some}
+use mathlib.Core.Option as maybe
 use lib.ListN.{get_elem?}
+use Rattle.atomic_table.specs.Table.{State}
 use Rattle.atomic_table.proofs.Lists.{at_set}
 use Rattle.at_crew.specs.declared.view.Climber.{Climber}
 use Rattle.at_crew.specs.declared.view.View.{View}
 use Rattle.at_crew.specs.declared.view.View.TheVariants.{Climbs}
 use Rattle.at_crew.specs.Views.{times, leads, lives, is_over, made, back, has_number, claimed, merged}
-use Rattle.at_crew.specs.Rule.{OneWhere, Knows, PassesCounted, WorkListed}
+use Rattle.at_crew.specs.Rule.{OneWhere, Knows, PassesCounted, WordsMarked, WorkListed, PartsStored, CrewRule}
 use Rattle.at_crew.proofs.Sums.{sum_same, sum_more, counts_same}
 
 module _ {F : Type 0} (f : F) (k : ℕ) where
@@ -55,3 +57,19 @@ module _ {F : Type 0} (k : ℕ) (views : List (View F)) (id : ℕ) (v w : Climbe
       → (x : ℕ) → OneWhere ((0 < x) × (x < k) × (slice_index words' x ≡ 3)) (sum_by (λ u. times x (merged u)) (set views id (Climbs w)))
   merges_on words words' same threes listed x = counts_same _ _ (sum_by (λ u. times x (merged u)) views) _ (λ y. (y.0, y.1, (threes x y.0 y.1).1 y.2)) (λ y. (y.0, y.1, (threes x y.0 y.1).0 y.2))
       (alike (λ u. times x (merged u)) (ap (times x) same)) (listed.merges x)
+
+-- the rule after a step, by its parts
+pub rule_on : {P F : Type 0} (stands : F → P → ℕ → ℕ → Type 0) (f : F) (k : ℕ) (s : State (Option P) (View F)) → CrewRule stands f k s
+    → (words' : List ℕ) (homes' : List (maybe.Option (Option P))) (views' : List (View F)) → length words' ≡ length s.words → length homes' ≡ length s.homes
+    → PassesCounted f k (slice_index words' 0) views' → WordsMarked k words' → WorkListed k words' views' → PartsStored stands f k words' homes'
+    → CrewRule stands f k record { words = words'; homes = homes'; views = views' }
+rule_on stands f k s good words' homes' views' wide deep counted marked listed stored = record {
+  power = good.power;
+  small = good.small;
+  wide = wide ∙ good.wide;
+  deep = deep ∙ good.deep;
+  counted = counted;
+  marked = marked;
+  listed = listed;
+  stored = stored;
+}

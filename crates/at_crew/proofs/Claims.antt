@@ -16,7 +16,7 @@ use Rattle.at_crew.specs.Rule.{OneWhere, PassesCounted, WordsMarked, WorkListed,
 use Rattle.at_crew.specs.Steps.{ClaimTells}
 use Rattle.at_crew.proofs.Tree.{leaf_node, spans_first, node_pos, node_bound, first_small, pow_pos}
 use Rattle.at_crew.proofs.Above.{all_claimed}
-use Rattle.at_crew.proofs.Alike.{SameThrees, counted_on, merges_on}
+use Rattle.at_crew.proofs.Alike.{SameThrees, counted_on, merges_on, rule_on}
 use Rattle.at_crew.proofs.Sums.{sum_at, sum_same, sum_more, sum_gap, hit, miss, times_more, counts_same, counts_zero, word_here, word_else}
 
 pub some-inj : {A : Type 0} {a b : A} → Some a ≡ Some b → a ≡ b
@@ -167,16 +167,8 @@ module _ {P F : Type 0} (stands : F → P → ℕ → ℕ → Type 0) (f : F) (k
   }
 
   pub claim_kept : c < k → CrewRule stands f k record { words = words'; homes = set s.homes c none; views = set s.views id (Climbs now) }
-  claim_kept lt = record {
-    power = good.power;
-    small = good.small;
-    wide = length-set s.words 0 (c + 1) ∙ good.wide;
-    deep = length-set s.homes c none ∙ good.deep;
-    counted = claim_counted lt;
-    marked = marked_more k s.words words' (c + 1) bump step_up pos good.marked;
-    listed = claim_listed lt;
-    stored = claim_stored lt;
-  }
+  claim_kept lt = rule_on stands f k s good words' (set s.homes c none) (set s.views id (Climbs now)) (length-set s.words 0 (c + 1)) (length-set s.homes c none)
+      (claim_counted lt) (marked_more k s.words words' (c + 1) bump step_up pos good.marked) (claim_listed lt) (claim_stored lt)
 
   abbrev last : Climber F
   last = ending c v
@@ -208,16 +200,8 @@ module _ {P F : Type 0} (stands : F → P → ℕ → ℕ → Type 0) (f : F) (k
   }
 
   pub end_kept : k ≤ c → CrewRule stands f k record { words = words'; homes = s.homes; views = set s.views id (Climbs last) }
-  end_kept le = record {
-    power = good.power;
-    small = good.small;
-    wide = length-set s.words 0 (c + 1) ∙ good.wide;
-    deep = good.deep;
-    counted = end_counted le;
-    marked = marked_more k s.words words' (c + 1) bump step_up pos good.marked;
-    listed = end_listed le;
-    stored = end_stored le;
-  }
+  end_kept le = rule_on stands f k s good words' s.homes (set s.views id (Climbs last)) (length-set s.words 0 (c + 1)) refl
+      (end_counted le) (marked_more k s.words words' (c + 1) bump step_up pos good.marked) (end_listed le) (end_stored le)
 
   -- this pass lives and has not ended, so fewer than 64 have
   pub few_fetched : c < k + 64

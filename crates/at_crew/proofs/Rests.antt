@@ -14,7 +14,7 @@ use Rattle.at_crew.specs.Views.{held_node, is_at, holds, resting}
 use Rattle.at_crew.specs.Rule.{OneWhere, PassesCounted, WordsMarked, WorkListed, PartsStored, CrewRule}
 use Rattle.at_crew.proofs.Tree.{spans_first, node_pos, node_bound, one_height}
 use Rattle.at_crew.proofs.Above.{apart, all_claimed}
-use Rattle.at_crew.proofs.Alike.{SameThrees, counted_on, claims_on, merges_on}
+use Rattle.at_crew.proofs.Alike.{SameThrees, counted_on, claims_on, merges_on, rule_on}
 use Rattle.at_crew.proofs.Sums.{sum_same, sum_less, sum_ge, hit, miss, counts_same, counts_one, counts_yes}
 use Rattle.at_crew.proofs.Claims.{some≢none}
 use Rattle.at_crew.proofs.Turns.{Laid}
@@ -110,13 +110,4 @@ module _ {P F : Type 0} (stands : F → P → ℕ → ℕ → Type 0) (f : F) (k
 
   pub rest_kept : (homes' : List (maybe.Option (Option P))) → Laid k h n s.homes homes' → (x : P) → get_elem? homes' (first_of k h n) ≡ some (some (Some x)) → stands f x (first_of k h n) (end_of k h n)
       → length words' ≡ length s.words → CrewRule stands f k record { words = words'; homes = homes'; views = set s.views id (Climbs (resting v)) }
-  rest_kept homes' laid x there stood long = record {
-    power = good.power;
-    small = good.small;
-    wide = long ∙ good.wide;
-    deep = laid.long ∙ good.deep;
-    counted = rest_counted;
-    marked = rest_marked;
-    listed = rest_listed;
-    stored = rest_stored homes' laid x there stood;
-  }
+  rest_kept homes' laid x there stood long = rule_on stands f k s good words' homes' (set s.views id (Climbs (resting v))) long laid.long rest_counted rest_marked rest_listed (rest_stored homes' laid x there stood)

@@ -16,7 +16,7 @@ use Rattle.at_crew.specs.Rule.{OneWhere, PassesCounted, WordsMarked, WorkListed,
 use Rattle.at_crew.proofs.Tree.{Spans, spans_first, node_pos, node_bound, two_children, sibling_bit, sibling_parent, sibling_other, above_node, child_node, spans_parent}
 use Rattle.at_crew.proofs.Above.{apart, all_claimed, held_is_top}
 use Rattle.at_crew.proofs.Sums.{sum_same, sum_less, sum_more, hit, miss, times_more, counts_same, counts_one, counts_zero}
-use Rattle.at_crew.proofs.Alike.{counted_on, claims_on}
+use Rattle.at_crew.proofs.Alike.{counted_on, claims_on, rule_on}
 use Rattle.at_crew.proofs.Claims.{some-inj, some≢none}
 use Rattle.at_crew.proofs.Turns.{Turned, Laid}
 use Rattle.at_crew.proofs.Rests.{Holds, holds_node}
@@ -187,16 +187,7 @@ module _ {P F : Type 0} (stands : F → P → ℕ → ℕ → Type 0) (f : F) (k
 
   pub second_kept : (homes' : List (maybe.Option (Option P))) → Laid k (suc h) p s.homes homes' → length words' ≡ length s.words
       → CrewRule stands f k record { words = words'; homes = homes'; views = set s.views id (Climbs next) }
-  second_kept homes' laid long = record {
-    power = good.power;
-    small = good.small;
-    wide = long ∙ good.wide;
-    deep = laid.long ∙ good.deep;
-    counted = second_counted;
-    marked = second_marked;
-    listed = second_listed;
-    stored = second_stored homes' laid;
-  }
+  second_kept homes' laid long = rule_on stands f k s good words' homes' (set s.views id (Climbs next)) long laid.long second_counted second_marked second_listed (second_stored homes' laid)
 
   -- the neighbour, and its part
   sib_node : IsNode k (parent.0 + 1) h (sibling n)

@@ -2,7 +2,7 @@
 -- For most public calls of the crate, `claim`, `close`, `new` among them.
 use Rattle.std.proofs.Common.{◌≡◌, ◌≢◌, ℕ, zero, suc, ◌+◌, ◌-◌, ◌*◌, ◌/◌, ◌%◌, ◌^◌, ◌<◌, ◌≤◌, refl, sym, ap, ◌∙◌, subst, arith, add-zero, add-one, mul-le-mul_right}
 use Rattle.std.proofs.lemmas.Nat.{pow-add}
-use native.Mathlib.Decide.{dec_le, ℕ_discrete}
+use native.Mathlib.Decide.{ℕ_discrete}
 use Rattle.at_crew.specs.Nodes.{IsNode, first_of, end_of, bit_of, sibling}
 
 pub two : (n : ℕ) → 2 ^ (n + 1) ≡ 2 * 2 ^ n
@@ -95,12 +95,10 @@ spans_parent k h n x s = let t : 2 ^ (suc h) ≡ 2 * 2 ^ h = two_suc h in let a 
 
 -- a span and its height determine the node
 pub same_node : (k h n m x : ℕ) → Spans k h n x → Spans k h m x → n ≡ m
-same_node k h n m x s t = cases (dec_le (suc n) m) (dec_le (suc m) n)
-  where
-    cases : Dec (suc n ≤ m) → Dec (suc m ≤ n) → n ≡ m
-    cases (yes a) b = let p : (n + 1) * 2 ^ h ≤ m * 2 ^ h = mul-le-mul_right (2 ^ h) (omega (arith, a)) in absurd (omega (arith, p, s.1, t.0))
-    cases (no a) (yes b) = let p : (m + 1) * 2 ^ h ≤ n * 2 ^ h = mul-le-mul_right (2 ^ h) (omega (arith, b)) in absurd (omega (arith, p, t.1, s.0))
-    cases (no a) (no b) = omega arith
+same_node k h n m x s t =
+    let low : ¬ (n < m) = λ lt. (let p : (n + 1) * 2 ^ h ≤ m * 2 ^ h = mul-le-mul_right (2 ^ h) (omega (arith, lt)) in omega (arith, p, s.1, t.0)) in
+    let high : ¬ (m < n) = λ lt. (let p : (m + 1) * 2 ^ h ≤ n * 2 ^ h = mul-le-mul_right (2 ^ h) (omega (arith, lt)) in omega (arith, p, t.1, s.0)) in
+    omega (arith, low, high)
 
 -- j steps up
 abbrev pub up : ℕ → ℕ → ℕ
@@ -120,12 +118,10 @@ taller k l h n l' d is is' = let f = from_product k l h n is in let t = to_produ
     omega (arith, f, t, m', r)
 
 pub one_height : (k l h n l' h' : ℕ) → IsNode k l h n → IsNode k l' h' n → h ≡ h'
-one_height k l h n l' h' is is' = cases (dec_le (suc h) h') (dec_le (suc h') h)
-  where
-    cases : Dec (suc h ≤ h') → Dec (suc h' ≤ h) → h ≡ h'
-    cases (yes a) b = let e : h' ≡ h + suc (h' - suc h) = omega (arith, a) in absurd (taller k l h n l' (h' - suc h) is (subst (λ (i : ℕ). IsNode k l' i n) e is'))
-    cases (no a) (yes b) = let e : h ≡ h' + suc (h - suc h') = omega (arith, b) in absurd (taller k l' h' n l (h - suc h') is' (subst (λ (i : ℕ). IsNode k l i n) e is))
-    cases (no a) (no b) = omega arith
+one_height k l h n l' h' is is' =
+    let low : ¬ (h < h') = λ lt. (let e : h' ≡ h + suc (h' - suc h) = omega (arith, lt) in taller k l h n l' (h' - suc h) is (subst (λ (i : ℕ). IsNode k l' i n) e is')) in
+    let high : ¬ (h' < h) = λ lt. (let e : h ≡ h' + suc (h - suc h') = omega (arith, lt) in taller k l' h' n l (h - suc h') is' (subst (λ (i : ℕ). IsNode k l i n) e is)) in
+    omega (arith, low, high)
 
 pub above_node : (k l h n : ℕ) → IsNode k l h n → 1 < n → (l' : ℕ) × IsNode k l' (suc h) (n / 2)
 above_node k zero h n is lt = let e = low_is_root k h n is in absurd (omega (arith, e, lt))
@@ -152,11 +148,9 @@ two_children n m e ne = omega (arith, e, ne)
 
 -- in a tree of at most 4,096 blocks
 pub height_small : (k l h n : ℕ) → IsNode k l h n → k ≤ 4096 → h ≤ 12
-height_small k l h n is le = cases (dec_le h 12)
-  where
-    cases : Dec (h ≤ 12) → h ≤ 12
-    cases (yes a) = a
-    cases (no b) = let i : l + h ≡ 13 + (l + h - 13) = omega (arith, b) in let e = is.0 ∙ ap (λ (j : ℕ). 2 ^ j) i ∙ pow-add 2 13 (l + h - 13) in let p = pow_pos (l + h - 13) in absurd (omega (arith, e, p, le))
+height_small k l h n is le =
+    let low : ¬ (12 < h) = λ lt. (let i : l + h ≡ 13 + (l + h - 13) = omega (arith, lt) in let e = is.0 ∙ ap (λ (j : ℕ). 2 ^ j) i ∙ pow-add 2 13 (l + h - 13) in let p = pow_pos (l + h - 13) in omega (arith, e, p, le)) in
+    omega (arith, low)
 
 pub width_small : (k l h n : ℕ) → IsNode k l h n → k ≤ 4096 → 2 ^ h ≤ 8192
 width_small k l h n is le = let t = to_product k l h n is in let m : 1 * 2 ^ h ≤ (n + 1) * 2 ^ h = mul-le-mul_right (2 ^ h) (omega arith) in omega (arith, t, m, le)

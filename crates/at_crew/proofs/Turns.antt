@@ -5,6 +5,7 @@ use mathlib.Core.Option as maybe
 use lib.ListN.{get_elem?}
 use native.Mathlib.Decide.{ℕ_discrete}
 use Rattle.atomic_table.proofs.Lists.{set_else}
+use Rattle.std.proofs.lemmas.Bool.{cases_eq}
 use Rattle.at_crew.specs.Nodes.{bit_of, Settled}
 use Rattle.at_crew.specs.Rule.{WordsMarked}
 use Rattle.at_crew.proofs.Tree.{Spans}
@@ -42,17 +43,8 @@ or_second n u e = cases (ℕ_discrete (n % 2) 0)
 
 -- the two words that the parent of a node that is not settled can have
 pub found_words : (k : ℕ) (words : List ℕ) (n : ℕ) → WordsMarked k words → 1 < n → n < 2 * k → (¬ Settled k words n) → (slice_index words (n / 2) ≡ 0) ⊎ (slice_index words (n / 2) + bit_of n ≡ 3)
-found_words k words n marked lt small not = cases (ℕ_discrete (slice_index words (n / 2)) 0)
-  where
-    four : slice_index words (n / 2) < 4
-    four = marked.two_bits (n / 2) (omega (arith, lt)) (omega (arith, small))
-
-    not_bit : ¬ (slice_index words (n / 2) ≡ bit_of n)
-    not_bit e = not (inr (lt, inl e))
-
-    not_both : ¬ (slice_index words (n / 2) ≡ 3)
-    not_both e = not (inr (lt, inr e))
-
-    cases : Dec (slice_index words (n / 2) ≡ 0) → (slice_index words (n / 2) ≡ 0) ⊎ (slice_index words (n / 2) + bit_of n ≡ 3)
-    cases (yes e) = inl e
-    cases (no ne) = inr (omega (arith, four, not_bit, not_both, ne))
+found_words k words n marked lt small not =
+    let four = marked.two_bits (n / 2) (omega (arith, lt)) (omega (arith, small)) in
+    let not_bit : ¬ (slice_index words (n / 2) ≡ bit_of n) = λ e. not (inr (lt, inl e)) in
+    let not_both : ¬ (slice_index words (n / 2) ≡ 3) = λ e. not (inr (lt, inr e)) in
+    elim (cases_eq (slice_index words (n / 2)) 0) [ inl e ↦ inl e | inr ne ↦ inr (omega (arith, four, not_bit, not_both, ne)) ]
