@@ -57,11 +57,8 @@ record Lettered (g : Notation) (w : List ℕ) (i : ℕ) : Type 0 where
 letter_digit : (g : Notation) (b : ℕ) → is_digit b ≡ true → step g letter b ≡ Some power
 letter_digit g b h = ap (λ c. cond c (Some power) (cond (is_sign b) (Some power_sign) None)) h
 
-digit_no_sign : (b : ℕ) → is_sign b ≡ true → is_digit b ≡ false
-digit_no_sign b h = grind (arith, h)
-
 letter_sign : (g : Notation) (b : ℕ) → is_sign b ≡ true → step g letter b ≡ Some power_sign
-letter_sign g b h = rw (digit_no_sign b h, h) refl
+letter_sign g b h = grind (arith, h)
 
 letter_none : (g : Notation) (b : ℕ) → is_sign b ≡ false → is_digit b ≡ false → step g letter b ≡ None
 letter_none g b h k = rw (k, h) refl

@@ -125,11 +125,8 @@ pub record Led (g : Notation) (w : List ℕ) (i end : ℕ) (led : Bool) : Type 0
   pub whole_is : IsWholeOf g led (between w i end)
 
 lead_none : (g : Notation) (b : ℕ) → is_digit b ≡ false → lead g b ≡ lone_point g b
-lead_none Json b h =
-    let zero : (b == 0x30) ≡ false = grind (arith, h) in
-    let first : is_first_digit b ≡ false = grind (arith, h) in
-    rw (zero, first) refl
-lead_none Wkt b h = ap (λ c. cond c (Some whole) (lone_point Wkt b)) h
+lead_none Json b h = grind (arith, h)
+lead_none Wkt b h = grind (arith, h)
 
 first_digit : (b : ℕ) → is_digit b ≡ true → (b == 0x30) ≡ false → is_first_digit b ≡ true
 first_digit b h k = grind (arith, h, k)

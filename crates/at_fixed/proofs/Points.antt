@@ -21,13 +21,10 @@ and_after a b h k = grind (arith, h, k)
 
 -- ---- no point
 
-and_one : (a : Bool) → (a && true) ≡ false → a ≡ false
-and_one a h = grind (arith, h)
-
 plain_next : (g : Notation) (led : Bool) (b : ℕ) → ((b == 0x2E) && (led || is_wkt g)) ≡ false → after_lead g led b ≡ after_mantissa led b
-plain_next g true b h = ap (λ c. cond c (Some (behind_digits g)) (after_fraction b)) (and_one (b == 0x2E) h)
+plain_next g true b h = grind (arith, h)
 plain_next Json false b h = refl
-plain_next Wkt false b h = ap (λ c. cond c (Some point) None) (and_one (b == 0x2E) h)
+plain_next Wkt false b h = grind (arith, h)
 
 wkt_whole : (whole : List ℕ) (f : Option (List ℕ)) → AreSomeDigits whole → IfSome f AreDigits → AreWktDigits whole f
 wkt_whole [] f h k = absurd h
