@@ -1,7 +1,7 @@
 //! Any number, read up to its end: its sign, its digits, its fraction and its exponent.
 
-ghost use Rattle.std.specs.Prelude.{◌≡◌, ◌^◌, ◌<◌, ◌≤◌, ◌==◌, ◌&&◌, ◌||◌, nat_lt, IsTrue, if◌then◌else◌, length, List, ℕ};
-ghost use Rattle.std.specs.Prelude.{slice_index};
+ghost use Rattle.std.specs.Prelude.{◌≡◌, ◌^◌, ◌<◌, ◌≤◌, ◌==◌, ◌&&◌, ◌||◌, nat_lt, IsTrue, if◌then◌else◌, length};
+ghost use Rattle.std.specs.Prelude.{slice_index, List, ℕ};
 ghost use Rattle.at_fixed.specs.Scans.{ReadsSign, ReadsLead, ReadsWhole, ReadsMantissa, ReadsPower, may_take_point};
 ghost use Rattle.at_fixed.specs.Scans.{is_wkt};
 ghost use Rattle.at_fixed.specs.Scanned.{IsScanned};
