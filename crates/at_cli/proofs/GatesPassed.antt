@@ -6,8 +6,8 @@ use Rattle.at_query.specs.declared.answer.answers.Answer.{Answer}
 use Rattle.at_run.specs.declared.faults.RunFault.{RunFault}
 use Rattle.at_run.specs.declared.faults.RunFault.TheVariants.{Memory}
 use Rattle.at_run.specs.declared.faults.JoinFault.{JoinFault}
-use Rattle.at_run.specs.Places.{IsLeastCount}
-use Rattle.at_run.specs.Blocks.{NoneGivenUp, SomeGivenUp}
+use Rattle.at_blocks.specs.Places.{IsLeastCount}
+use Rattle.at_blocks.specs.Blocks.{NoneGivenUp, SomeGivenUp}
 use Rattle.at_cli.specs.declared.words.line.Line.{Line}
 use Rattle.at_cli.specs.Gates.{PassesCells, PassesGate}
 

@@ -5,9 +5,6 @@ pub mod Runs
 pub mod Prefixes
 pub mod Spelled
 pub mod OneLine
-pub mod Sequences
-pub mod OneFile
-pub mod FormParts
 pub mod OneOutcome
 pub mod Numbers
 pub mod FileNames

@@ -4,7 +4,7 @@ use Rattle.std.proofs.Common.{◌≡◌, ℕ, List, Some, Result, Ok, Err, IfOk,
 use Rattle.std.specs.Prelude.{IsOk}
 use Rattle.at_query.specs.declared.query.queries.Query.{Query}
 use Rattle.at_query.specs.declared.answer.answers.Answer.{Answer}
-use Rattle.at_run.specs.Answers.{IfFound}
+use Rattle.at_run.specs.Answers.{IfFound, IsFileAnswer, IsJoinAnswer, IsJoinFault}
 use Rattle.at_run.specs.declared.faults.RunFault.{RunFault}
 use Rattle.at_run.specs.declared.faults.RunFault.TheVariants as faults
 use Rattle.at_run.specs.declared.faults.JoinFault.{JoinFault}
@@ -13,7 +13,7 @@ use Rattle.at_cli.specs.declared.words.line.Line.{Line}
 use Rattle.at_cli.specs.declared.outcome.ending.Ending.{Ending}
 use Rattle.at_cli.specs.declared.outcome.loading.Loaded.{Loaded}
 use Rattle.at_cli.specs.declared.outcome.loading.Loaded.TheVariants.{Ended, One, Two}
-use Rattle.at_cli.specs.Answers.{HasFaultAs, IsAnswerAs, IsJoinAs, IsJoinFaultAs}
+use Rattle.at_run.specs.Files.{HasFileFaultIn}
 use Rattle.at_cli.specs.LineOf.{SaysLine, form_of}
 use Rattle.at_cli.specs.Endings.{EndsBytes, EndsPair}
 use Rattle.at_cli.specs.Gates.{PassesSaid}
@@ -52,7 +52,7 @@ passes_said words given_up (Two files) says passes = (files.line, says, passes)
 -- ---- the end that is made of an answer
 
 pub ends_bytes : (line : Line) (query : Query) (bytes : List ℕ) (answer : Result Answer RunFault) (e : Ending)
-    → MatchResult answer (IsAnswerAs (form_of line line.first) line.digits line.how query bytes) (λ end. IfFound end (λ fault. HasFaultAs (form_of line line.first) line.digits line.how bytes (Some fault)))
+    → MatchResult answer (IsFileAnswer (form_of line line.first) line.digits line.how query bytes) (λ end. IfFound end (λ fault. HasFileFaultIn (form_of line line.first) line.digits line.how bytes (Some fault)))
     → IsEndOf line answer e → EndsBytes line query bytes e
 ends_bytes line query bytes (Ok answer) e h (inl five) = inl five
 ends_bytes line query bytes (Ok answer) e h (inr is) = inr (inr (answer, h, is))
@@ -60,7 +60,7 @@ ends_bytes line query bytes (Err (faults.Found fault)) e h is = inr (inl (fault,
 ends_bytes line query bytes (Err faults.Memory) e h five = inl five
 
 pub ends_pair : (line : Line) (query : Query) (second a b : List ℕ) (answer : Result Answer JoinFault) (e : Ending) → line.second ≡ Some second
-    → MatchResult answer (IsJoinAs (form_of line line.first) (form_of line second) line.digits line.how query a b) (IsJoinFaultAs (form_of line line.first) (form_of line second) line.digits line.how a b)
+    → MatchResult answer (IsJoinAnswer (form_of line line.first) (form_of line second) line.digits line.how query a b) (IsJoinFault (form_of line line.first) (form_of line second) line.digits line.how a b)
     → IsEndOfJoin line answer e → EndsPair line query second a b e
 ends_pair line query second a b (Ok answer) e there h (inl five) = inl five
 ends_pair line query second a b (Ok answer) e there h (inr is) = inr (inr (inr (answer, h, is)))

@@ -7,8 +7,8 @@ use Rattle.at_fixed.specs.declared.rounding.Coords.{Coords}
 use Rattle.at_fixed.specs.declared.rounding.Coords.TheVariants.{Exact, Round}
 use Rattle.at_cli.specs.declared.words.flags.Setting.{Setting}
 use Rattle.at_cli.specs.declared.words.flags.Setting.TheVariants as settings
-use Rattle.at_cli.specs.declared.words.form.FileForm.{FileForm}
-use Rattle.at_cli.specs.declared.words.form.FileForm.TheVariants.{GeoJson, Wkt, Seq}
+use Rattle.at_run.specs.declared.forms.Form.{Form}
+use Rattle.at_run.specs.declared.forms.Form.TheVariants.{GeoJson, Wkt, Seq}
 use Rattle.at_cli.specs.declared.words.line.Line.{Line}
 use Rattle.at_cli.specs.declared.words.line.WordsEnd.{WordsEnd}
 use Rattle.at_cli.specs.declared.words.line.WordsEnd.TheVariants.{Refused, Memory}
@@ -141,7 +141,7 @@ chosen_once default Spells (v ∷ w ∷ more) x y once g h = absurd g
 apart : (m n : ℕ) → m < n → m ≡ n → ⊥
 apart m n less same = omega arith
 
-one_form : (a b : FileForm) → form_text a ≡ form_text b → a ≡ b
+one_form : (a b : Form) → form_text a ≡ form_text b → a ≡ b
 one_form GeoJson GeoJson e = refl
 one_form Wkt Wkt e = refl
 one_form Wkt Seq e = absurd (apart 115 119 (lit< tt) (sym (ap (λ (text : List ℕ). get_or text 0 0) e)))
@@ -149,7 +149,7 @@ one_form Seq Wkt e = absurd (apart 115 119 (lit< tt) (ap (λ (text : List ℕ). 
 one_form Seq Seq e = refl
 one_form _ _ e = cc
 
-pub one_said_form : (text : List ℕ) (a b : Option FileForm) → SpellsForm text a → SpellsForm text b → a ≡ b
+pub one_said_form : (text : List ℕ) (a b : Option Form) → SpellsForm text a → SpellsForm text b → a ≡ b
 one_said_form text a b (f, e, t) (g, h, u) = e ∙ ap Some (one_form f g (sym t ∙ u)) ∙ sym h
 
 one_text : (a b : Coords) → coords_text a ≡ coords_text b → a ≡ b
@@ -175,7 +175,7 @@ one_whole low high small text a b g h = decimal_injective a b (omega (arith, g.m
 one_feed : (text : List ℕ) (a b : Option ℕ) → SpellsFeed text a → SpellsFeed text b → a ≡ b
 one_feed text a b (m, e, g) (n, f, h) = e ∙ ap Some (one_whole 1 1048576 (lit< tt) text m n g h) ∙ sym f
 
-make_line : Option FileForm → Coords → ℕ → ℕ → ℕ → Option ℕ → List ℕ → List ℕ → Option (List ℕ) → Line
+make_line : Option Form → Coords → ℕ → ℕ → ℕ → Option ℕ → List ℕ → List ℕ → Option (List ℕ) → Line
 make_line form how digits blocks workers feed query first second = record {
   form = form;
   how = how;
@@ -188,7 +188,7 @@ make_line form how digits blocks workers feed query first second = record {
   second = second;
 }
 
-made_same : (f g : Option FileForm) (h k : Coords) (d e b c w v : ℕ) (i j : Option ℕ) (q p x y : List ℕ) (s t : Option (List ℕ))
+made_same : (f g : Option Form) (h k : Coords) (d e b c w v : ℕ) (i j : Option ℕ) (q p x y : List ℕ) (s t : Option (List ℕ))
     → f ≡ g → h ≡ k → d ≡ e → b ≡ c → w ≡ v → i ≡ j → q ≡ p → x ≡ y → s ≡ t → make_line f h d b w i q x s ≡ make_line g k e c v j p y t
 made_same f g h k d e b c w v i j q p x y s t e1 e2 e3 e4 e5 e6 e7 e8 e9 = cc
 

@@ -6,7 +6,7 @@ use Rattle.at_io.specs.Files.{Files}
 use Rattle.at_query.specs.declared.query.queries.Query.{Query}
 use Rattle.at_query.specs.Printing.{printed}
 use Rattle.at_query.proofs.OneQuery.{one_query, one_query_fault, query_or_fault}
-use Rattle.at_cli.specs.declared.words.form.FileForm.{FileForm}
+use Rattle.at_run.specs.declared.forms.Form.{Form}
 use Rattle.at_cli.specs.declared.words.line.Line.{Line}
 use Rattle.at_cli.specs.LineOf.{form_of}
 use Rattle.at_cli.specs.Made.{is_made}
@@ -16,7 +16,7 @@ use Rattle.at_cli.specs.Outcomes.{Outcome, stopped, answered, has_right_count, H
 use Rattle.at_cli.specs.declared.outcome.ending.Ending.{Ending}
 use Rattle.at_cli.specs.Endings.{outcome_by, Ends}
 use Rattle.at_cli.proofs.OneLine.{one_line}
-use Rattle.at_cli.proofs.OneFile.{one_fault_as, one_answer_as, answer_or_fault_as, one_join_as, join_or_first_fault_as, join_or_second_fault_as}
+use Rattle.at_run.proofs.OneAnswer.{one_file_fault_in, one_file_answer, answer_or_fault, one_join_answer, join_or_first_fault, join_or_second_fault}
 
 -- ---- one outcome of what is the same
 
@@ -40,34 +40,34 @@ one_sized files name Rest one a b (bytes, named, inr (h, more)) (others, also, i
 
 module _ (line : Line) where
   -- the form of the first file
-  abbrev form : FileForm
+  abbrev form : Form
   form = form_of line line.first
 
   module _ (query : Query) where
     one_of_bytes : (bytes : List ℕ) (a b : Outcome) → HasBytesOutcome line query bytes a → HasBytesOutcome line query bytes b → a ≡ b
     one_of_bytes bytes a b (inl (f, h, e)) (inl (g, k, i)) =
-        let same : f ≡ g = same_Some f g (one_fault_as line.digits line.how form bytes (Some f) (Some g) h k) in
+        let same : f ≡ g = same_Some f g (one_file_fault_in form line.digits line.how bytes (Some f) (Some g) h k) in
         e ∙ (ap (λ z. stopped 1 (fault_line line.first z)) same ∙ sym i)
-    one_of_bytes bytes a b (inl (f, h, e)) (inr (answer, k, i)) = absurd (answer_or_fault_as line.digits line.how form query bytes answer f k h)
-    one_of_bytes bytes a b (inr (answer, h, e)) (inl (g, k, i)) = absurd (answer_or_fault_as line.digits line.how form query bytes answer g h k)
-    one_of_bytes bytes a b (inr (x, h, e)) (inr (y, k, i)) = e ∙ (ap (λ z. answered (printed line.digits z)) (one_answer_as line.digits line.how form query bytes x y h k) ∙ sym i)
+    one_of_bytes bytes a b (inl (f, h, e)) (inr (answer, k, i)) = absurd (answer_or_fault form line.digits line.how query bytes answer f k h)
+    one_of_bytes bytes a b (inr (answer, h, e)) (inl (g, k, i)) = absurd (answer_or_fault form line.digits line.how query bytes answer g h k)
+    one_of_bytes bytes a b (inr (x, h, e)) (inr (y, k, i)) = e ∙ (ap (λ z. answered (printed line.digits z)) (one_file_answer form line.digits line.how query bytes x y h k) ∙ sym i)
 
     -- the first fault of the first file that has one, or the join
     one_of_pair : (second a b : List ℕ) (x y : Outcome) → HasPairOutcome line query second a b x → HasPairOutcome line query second a b y → x ≡ y
     one_of_pair second a b x y (inl (f, h, e)) (inl (g, k, i)) =
-        let same : f ≡ g = same_Some f g (one_fault_as line.digits line.how form a (Some f) (Some g) h k) in
+        let same : f ≡ g = same_Some f g (one_file_fault_in form line.digits line.how a (Some f) (Some g) h k) in
         e ∙ (ap (λ z. stopped 1 (fault_line line.first z)) same ∙ sym i)
-    one_of_pair second a b x y (inl (f, h, e)) (inr (inl (g, (k, l), i))) = absurd (none-some f (one_fault_as line.digits line.how form a None (Some f) k h))
-    one_of_pair second a b x y (inl (f, h, e)) (inr (inr (answer, k, i))) = absurd (join_or_first_fault_as line.digits line.how form (form_of line second) query a b answer f k h)
-    one_of_pair second a b x y (inr (inl (f, (h, l), e))) (inl (g, k, i)) = absurd (none-some g (one_fault_as line.digits line.how form a None (Some g) h k))
+    one_of_pair second a b x y (inl (f, h, e)) (inr (inl (g, (k, l), i))) = absurd (none-some f (one_file_fault_in form line.digits line.how a None (Some f) k h))
+    one_of_pair second a b x y (inl (f, h, e)) (inr (inr (answer, k, i))) = absurd (join_or_first_fault form (form_of line second) line.digits line.how query a b answer f k h)
+    one_of_pair second a b x y (inr (inl (f, (h, l), e))) (inl (g, k, i)) = absurd (none-some g (one_file_fault_in form line.digits line.how a None (Some g) h k))
     one_of_pair second a b x y (inr (inl (f, (h, l), e))) (inr (inl (g, (k, m), i))) =
-        let same : f ≡ g = same_Some f g (one_fault_as line.digits line.how (form_of line second) b (Some f) (Some g) l m) in
+        let same : f ≡ g = same_Some f g (one_file_fault_in (form_of line second) line.digits line.how b (Some f) (Some g) l m) in
         e ∙ (ap (λ z. stopped 1 (fault_line second z)) same ∙ sym i)
-    one_of_pair second a b x y (inr (inl (f, (h, l), e))) (inr (inr (answer, k, i))) = absurd (join_or_second_fault_as line.digits line.how form (form_of line second) query a b answer f k l)
-    one_of_pair second a b x y (inr (inr (answer, h, e))) (inl (g, k, i)) = absurd (join_or_first_fault_as line.digits line.how form (form_of line second) query a b answer g h k)
-    one_of_pair second a b x y (inr (inr (answer, h, e))) (inr (inl (g, (k, l), i))) = absurd (join_or_second_fault_as line.digits line.how form (form_of line second) query a b answer g h l)
+    one_of_pair second a b x y (inr (inl (f, (h, l), e))) (inr (inr (answer, k, i))) = absurd (join_or_second_fault form (form_of line second) line.digits line.how query a b answer f k l)
+    one_of_pair second a b x y (inr (inr (answer, h, e))) (inl (g, k, i)) = absurd (join_or_first_fault form (form_of line second) line.digits line.how query a b answer g h k)
+    one_of_pair second a b x y (inr (inr (answer, h, e))) (inr (inl (g, (k, l), i))) = absurd (join_or_second_fault form (form_of line second) line.digits line.how query a b answer g h l)
     one_of_pair second a b x y (inr (inr (one, h, e))) (inr (inr (other, k, i))) =
-        e ∙ (ap (λ z. answered (printed line.digits z)) (one_join_as line.digits line.how form (form_of line second) query a b one other h k) ∙ sym i)
+        e ∙ (ap (λ z. answered (printed line.digits z)) (one_join_answer form (form_of line second) line.digits line.how query a b one other h k) ∙ sym i)
 
     module _ (files : Files) where
       one_of_files : (second : Option (List ℕ)) (a b : Outcome) → HasFilesOutcome second line query files a → HasFilesOutcome second line query files b → a ≡ b

@@ -1,7 +1,7 @@
 -- The gate that the blocks of a file pass, and the cells of a join: where an answer is written, it gave up none of them.
 use Rattle.std.specs.Prelude.{◌≡◌, ℕ, List, Option, Some, None}
-use Rattle.at_run.specs.Places.{IsLeastCount}
-use Rattle.at_run.specs.Blocks.{NoneGivenUp}
+use Rattle.at_blocks.specs.Places.{IsLeastCount}
+use Rattle.at_blocks.specs.Blocks.{NoneGivenUp}
 use Rattle.at_cli.specs.declared.words.line.Line.{Line}
 use Rattle.at_cli.specs.LineOf.{SaysLine}
 

@@ -3,7 +3,6 @@ pub mod Words
 pub mod Pieces
 pub mod Values
 pub mod LineOf
-pub mod Answers
 pub mod Gates
 pub mod Texts
 pub mod Outcomes

@@ -4,8 +4,8 @@ use Rattle.std.specs.Prelude.{unwrap_or}
 use Rattle.at_fixed.specs.declared.rounding.Coords.TheVariants.{Round}
 use Rattle.at_cli.specs.declared.words.flags.Setting.{Setting}
 use Rattle.at_cli.specs.declared.words.flags.Setting.TheVariants as settings
-use Rattle.at_cli.specs.declared.words.form.FileForm.{FileForm}
-use Rattle.at_cli.specs.declared.words.form.FileForm.TheVariants.{Seq}
+use Rattle.at_run.specs.declared.forms.Form.{Form}
+use Rattle.at_run.specs.declared.forms.Form.TheVariants.{Seq}
 use Rattle.at_cli.specs.declared.words.line.Line.{Line}
 use Rattle.at_cli.specs.Pieces.{Piece, SpellPieces, values_of, positionals_of}
 use Rattle.at_cli.specs.Values.{form_text, coords_text, SpellsDigits, IsWhole, IsFileName, form_by_name}
@@ -16,14 +16,14 @@ IsChosen default Spells [] x = x ≡ default
 IsChosen default Spells (value ∷ []) x = Spells value x
 IsChosen default Spells (value ∷ second ∷ more) x = ⊥
 
-abbrev pub SpellsForm : List ℕ → Option FileForm → Type 0
-SpellsForm text chosen = (form : FileForm) × (chosen ≡ Some form) × (text ≡ form_text form)
+abbrev pub SpellsForm : List ℕ → Option Form → Type 0
+SpellsForm text chosen = (form : Form) × (chosen ≡ Some form) × (text ≡ form_text form)
 
 abbrev pub SpellsFeed : List ℕ → Option ℕ → Type 0
 SpellsFeed text chosen = (size : ℕ) × (chosen ≡ Some size) × IsWhole 1 1048576 text size
 
 -- no sequence is read in chunks
-abbrev pub CanFeed : Option FileForm → Option ℕ → Type 0
+abbrev pub CanFeed : Option Form → Option ℕ → Type 0
 CanFeed form feed = (size : ℕ) → feed ≡ Some size → form ≢ Some Seq
 
 -- the query, the file and the second file where there is one, in this order
@@ -63,5 +63,5 @@ pub record KeepsLimits (line : Line) : Type 0 where
   pub second_names : IfSome line.second IsFileName
 
 -- the form of a name's file: the one that the line says, or else the one that the name says
-abbrev pub form_of : Line → List ℕ → FileForm
+abbrev pub form_of : Line → List ℕ → Form
 form_of line name = unwrap_or line.form (form_by_name name)

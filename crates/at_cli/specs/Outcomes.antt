@@ -11,7 +11,8 @@ use Rattle.at_query.specs.Queries.{IsQueryOf, HasQueryFault}
 use Rattle.at_query.specs.Printing.{printed}
 use Rattle.at_cli.specs.declared.words.line.Line.{Line}
 use Rattle.at_cli.specs.LineOf.{SaysLine, form_of}
-use Rattle.at_cli.specs.Answers.{HasFaultAs, IsAnswerAs, IsJoinAs, SecondFailsAs}
+use Rattle.at_run.specs.Files.{HasFileFaultIn}
+use Rattle.at_run.specs.Answers.{IsFileAnswer, IsJoinAnswer, SecondFails}
 use Rattle.at_cli.specs.Made.{is_made, IsMadeText}
 use Rattle.at_cli.specs.Texts.{usage_line, query_line, files_line, size_line, fault_line}
 
@@ -55,20 +56,20 @@ Sized files name Rest outcome = (bytes : List ℕ) × HasBytes files name bytes
 -- the outcome over a file within the limit: its first fault, or else the answer to the query
 abbrev pub HasBytesOutcome : Line → Query → List ℕ → Outcome → Type 0
 HasBytesOutcome line query bytes outcome =
-    ((fault : Fault) × HasFaultAs (form_of line line.first) line.digits line.how bytes (Some fault)
+    ((fault : Fault) × HasFileFaultIn (form_of line line.first) line.digits line.how bytes (Some fault)
     × (outcome ≡ stopped 1 (fault_line line.first fault)))
-    ⊎ ((answer : Answer) × IsAnswerAs (form_of line line.first) line.digits line.how query bytes answer
+    ⊎ ((answer : Answer) × IsFileAnswer (form_of line line.first) line.digits line.how query bytes answer
     × (outcome ≡ answered (printed line.digits answer)))
 
 -- the outcome over two files within the limit: the first fault of the first that has one, or else the answer to the
 -- join
 abbrev pub HasPairOutcome : Line → Query → List ℕ → List ℕ → List ℕ → Outcome → Type 0
 HasPairOutcome line query second a b outcome =
-    ((fault : Fault) × HasFaultAs (form_of line line.first) line.digits line.how a (Some fault)
+    ((fault : Fault) × HasFileFaultIn (form_of line line.first) line.digits line.how a (Some fault)
     × (outcome ≡ stopped 1 (fault_line line.first fault)))
-    ⊎ (((fault : Fault) × SecondFailsAs (form_of line line.first) (form_of line second) line.digits line.how a b fault
+    ⊎ (((fault : Fault) × SecondFails (form_of line line.first) (form_of line second) line.digits line.how a b fault
     × (outcome ≡ stopped 1 (fault_line second fault)))
-    ⊎ ((answer : Answer) × IsJoinAs (form_of line line.first) (form_of line second) line.digits line.how query a b
+    ⊎ ((answer : Answer) × IsJoinAnswer (form_of line line.first) (form_of line second) line.digits line.how query a b
     answer × (outcome ≡ answered (printed line.digits answer))))
 
 -- the names have bytes in their turn, and the files have the outcome

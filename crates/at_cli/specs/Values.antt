@@ -4,10 +4,10 @@ use Rattle.std.specs.List.{ends_with}
 use Rattle.at_fixed.specs.declared.rounding.Coords.{Coords}
 use Rattle.at_fixed.specs.declared.rounding.Coords.TheVariants.{Exact, Round}
 use Rattle.at_cli.specs.Words.{begins_with}
-use Rattle.at_cli.specs.declared.words.form.FileForm.{FileForm}
-use Rattle.at_cli.specs.declared.words.form.FileForm.TheVariants.{GeoJson, Wkt, Seq}
+use Rattle.at_run.specs.declared.forms.Form.{Form}
+use Rattle.at_run.specs.declared.forms.Form.TheVariants.{GeoJson, Wkt, Seq}
 
-abbrev pub form_text : FileForm → List ℕ
+abbrev pub form_text : Form → List ℕ
 form_text GeoJson = codes "geojson"
 form_text Wkt = codes "wkt"
 form_text Seq = codes "seq"
@@ -35,5 +35,5 @@ abbrev pub IsFileName : List ℕ → Type 0
 IsFileName name = (text : List ℕ) → GoesOn name text → (count : ℕ) × IsWhole 0 1000000 text count
 
 -- the form of a file whose form isn't said, which is never a sequence
-abbrev pub form_by_name : List ℕ → FileForm
+abbrev pub form_by_name : List ℕ → Form
 form_by_name name = if ends_with nat_eq name (codes ".wkt") || begins_with (codes "@w:") name then Wkt else GeoJson

@@ -12,8 +12,7 @@ mod squares;
 mod outcome;
 
 pub use made::made_file;
-pub use outcome::files::join_as;
 pub use outcome::run::top;
 pub use outcome::telling::tell_no_memory;
-pub use words::form::{FileForm, form_of};
+pub use words::form::form_of;
 pub use words::line::{Line, WordsEnd, read_words};

@@ -2,8 +2,6 @@
 #![tactic(auto)]
 
 #[cfg(test)]
-mod file_tests;
-#[cfg(test)]
 mod hostile_tests;
 #[cfg(test)]
 mod line_tests;

@@ -1,7 +1,8 @@
 //! Tables of words, and the lines that they say.
 
-use at_cli::{FileForm, Line, WordsEnd, form_of, read_words};
+use at_cli::{Line, WordsEnd, form_of, read_words};
 use at_fixed::Coords;
+use at_run::Form;
 use std::alloc::Global;
 use std::process::Abort;
 use std::test::Fail;
@@ -179,11 +180,11 @@ count|e|--feed => refused
 --form=seq|--feed=5|join|a|b => refused
 ";
 
-fn form_name(form: FileForm) -> &'static str {
+fn form_name(form: Form) -> &'static str {
     match form {
-        FileForm::GeoJson => "geojson",
-        FileForm::Wkt => "wkt",
-        FileForm::Seq => "seq",
+        Form::GeoJson => "geojson",
+        Form::Wkt => "wkt",
+        Form::Seq => "seq",
     }
 }
 

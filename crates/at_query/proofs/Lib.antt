@@ -19,6 +19,9 @@ pub mod TestParts
 pub mod TestLists
 pub mod QueryParts
 pub mod ShapeRanges
+pub mod LineBytes
+pub mod ShapeSizes
+pub mod ProperShapes
 pub mod OneAnswer
 pub mod OneQuery
 pub mod OneSpelled

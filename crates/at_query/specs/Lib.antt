@@ -5,6 +5,7 @@ pub mod Ranges
 pub mod Parts
 pub mod Joined
 pub mod Accumulators
+pub mod GatheredParts
 pub mod Keeping
 pub mod Tallies
 pub mod Printing

@@ -4,7 +4,7 @@
 //! [`read_query`] reads a query line. [`part_of`] gives what one feature adds to an answer, [`part_merge`] joins what
 //! two neighbouring lists of features give, in any grouping, and [`answer_of`] and [`answer_text`] make the answer and
 //! its printed text of the whole list's part. Where features come one after another, an [`Accumulator`] takes each in
-//! place and becomes the part of all.
+//! place and becomes the part of all; [`Gathered`] is that or the first fault, where some of what is read may have one.
 //!
 //! Who reads features for a query need not keep all of them: [`needs_shapes`], [`needs_texts`], [`text_tests`] and
 //! [`query_measure`] say what the query looks at. A [`Tally`] takes positions one by one in place of their lists.
@@ -31,6 +31,9 @@ mod answer;
 pub use answer::accumulators::Accumulator;
 pub use answer::answers::{Answer, Offsets, Pair, Pairs};
 pub use answer::extents::{joined_extent, lower_corner, upper_corner};
+pub use answer::gathered::{
+    Gathered, add_fault, add_feature, add_lent, count_line, join_into, joined,
+};
 pub use answer::holding::holds;
 pub use answer::merging::part_merge;
 pub use answer::parts::{Entries, Entry, Part};

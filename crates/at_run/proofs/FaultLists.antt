@@ -1,5 +1,5 @@
 -- The faults of lines and of files of lines: of one line, of joined lists, and that there are no others.
--- For `answer` and `join_into`.
+-- For `answer`.
 use Rattle.std.proofs.Common.{◌≡◌, ℕ, inl, inr, List, [], ◌∷◌, ◌++◌, Option, Some, None, refl, sym, ◌∙◌, ap, subst, append-nil, append_assoc}
 use Rattle.at_text.specs.declared.faults.Fault.{Fault}
 use Rattle.at_text.specs.Faults.{first_fault, first_of}

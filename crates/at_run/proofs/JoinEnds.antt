@@ -1,7 +1,7 @@
 -- What two files' entries make of a join, said of the files.
--- For `answer_join`, and for the joins of other forms in the crates above.
+-- For `answer_join`.
 use Rattle.std.proofs.Common.{◌≡◌, List, Result, Ok, Err, sym, subst}
-use Rattle.std.specs.Result.{MatchResult, IfOk}
+use Rattle.std.specs.Result.{MatchResult}
 use Rattle.at_text.specs.declared.faults.Fault.{Fault}
 use Rattle.at_query.specs.declared.answer.answers.Answer.{Answer}
 use Rattle.at_query.specs.declared.answer.answers.Answer.TheVariants.{Pairs}
@@ -20,9 +20,3 @@ joins_by first second (Ok answer) P Q (entries, pairs, e, is_pairs, all) paired 
 joins_by first second (Err (First fault)) P Q h paired failed m = absurd h
 joins_by first second (Err (Second fault)) P Q h paired failed m = failed fault h
 joins_by first second (Err Memory) P Q h paired failed m = m
-
--- where there is an answer, the second file has entries
-pub joins_ok : (first : List Entry) (second : Result (List Entry) RunFault) (r : Result Answer JoinFault) (P : Type 0) → MatchResult r (PairsWith first second) (EndsSecond second) → ((entries : List Entry) → second ≡ Ok entries → P)
-    → IfOk r (λ _. P)
-joins_ok first second (Ok answer) P (entries, pairs, e, is_pairs, all) f = f entries e
-joins_ok first second (Err end) P h f = tt

@@ -17,11 +17,11 @@ use Rattle.at_query.proofs.KeptLists.{keeps-append, keeps_parts}
 use Rattle.at_query.proofs.ProperEntries.{entries_are_proper}
 use Rattle.at_join.specs.Meetings.{Meeting, at_entries, IsAllPairs}
 use Rattle.at_run.specs.declared.forms.Form.{Form}
-use Rattle.at_run.specs.declared.forms.Form.TheVariants.{GeoJson, Wkt}
+use Rattle.at_run.specs.declared.forms.Form.TheVariants.{GeoJson, Wkt, Seq}
 use Rattle.at_run.specs.Files.{HasFileFaultIn, AreFileFeaturesIn}
 use Rattle.at_run.specs.Answers.{IsFilePart, IsJoinAnswer}
-use Rattle.at_run.proofs.ProperFeatures.{file_features_proper}
-use Rattle.at_run.proofs.JsonFeatures.{json_features_proper}
+use Rattle.at_seq.proofs.ProperEntries.{seq_features_proper}
+use Rattle.at_run.proofs.ProperFeatures.{file_features_proper, json_features_proper}
 
 -- ---- what is kept of lists
 
@@ -95,6 +95,7 @@ module _ (digits : ℕ) (how : Coords) where
   -- the features of a file without a fault are proper
   features_proper : (form : Form) (bytes : List ℕ) (fs : List Feature) → HasFileFaultIn form digits how bytes None → AreFileFeaturesIn form digits how bytes fs → AreProperFeatures fs
   features_proper Wkt bytes fs h are = file_features_proper digits how bytes fs h are
+  features_proper Seq bytes fs h are = seq_features_proper digits how bytes fs h are
   features_proper GeoJson bytes fs h (t, is, same) = subst AreProperFeatures (sym same) (json_features_proper digits how bytes t h is)
 
   -- the entries of a file are proper

@@ -1,23 +1,15 @@
-pub mod Powers
-pub mod EvenPlaces
 pub mod LabelledLines
 pub mod LabelSteps
 pub mod FaultLists
 pub mod KeptLabels
 pub mod LineParts
-pub mod Covered
-pub mod BlockParts
-pub mod LineBytes
 pub mod FileSizes
 pub mod ProperFeatures
-pub mod JsonSizes
-pub mod JsonFeatures
 pub mod Results
-pub mod ValidSpans
 pub mod ValidLines
 pub mod FormMerges
 pub mod JsonEnds
+pub mod SequenceEnds
 pub mod OneAnswer
 pub mod JoinedFiles
 pub mod JoinEnds
-mod MovedCuts

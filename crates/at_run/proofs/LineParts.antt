@@ -1,12 +1,12 @@
 -- What is gathered of one line, and of joined lines.
--- For `join_into`.
+-- For `answer`, `answer_join`, `finish_pieces` and `part`.
 use Rattle.std.proofs.Common.{◌≡◌, ℕ, ◌+◌, List, [], ◌∷◌, ◌++◌, take, drop, Option, Some, None, refl, sym, ap, subst, inl, inr, arith}
 use Rattle.std.specs.List.{AllByRecursion}
 use Rattle.std.specs.Str.{IsUtf8}
 use Rattle.std.proofs.lemmas.Str.{IsUtf8-append}
 use Rattle.std.proofs.ByRecursion.{All-append}
 use Rattle.at_text.specs.declared.faults.Fault.{Fault}
-use Rattle.at_text.specs.Faults.{first_fault, first_of}
+use Rattle.at_text.specs.Faults.{first_of}
 use Rattle.at_text.specs.Spans.{span_of}
 use Rattle.at_text.specs.Syntax.{IsSyntaxFault}
 use Rattle.at_fixed.specs.declared.rounding.Coords.{Coords}
@@ -25,16 +25,17 @@ use Rattle.at_query.specs.declared.answer.parts.Part.TheVariants.{Count}
 use Rattle.at_query.specs.declared.answer.accumulators.Accumulator.{Accumulator}
 use Rattle.at_query.specs.declared.answer.accumulators.Accumulator.TheVariants.{Part as APart}
 use Rattle.at_query.specs.declared.query.queries.Query.{Query}
-use Rattle.at_query.specs.Accumulators.{IsAccumulated, JoinsAccumulators}
+use Rattle.at_query.specs.Accumulators.{IsAccumulated}
+use Rattle.at_query.specs.GatheredParts.{IsOwnOf, IsJoinOf, AddsFeature}
 use Rattle.at_query.proofs.ShapeRanges.{shape_in}
-use Rattle.at_run.specs.declared.gathered.Gathered.{Gathered}
-use Rattle.at_run.specs.declared.gathered.Gathered.TheVariants.{Kept, Failed}
+use Rattle.at_query.specs.declared.answer.gathered.Gathered.{Gathered}
+use Rattle.at_query.specs.declared.answer.gathered.Gathered.TheVariants.{Kept, Failed}
 use Rattle.at_run.specs.Labels.{SpellsLabelled, LabelledLine, texts_of}
 use Rattle.at_run.specs.declared.labels.Behind.{Behind}
 use Rattle.at_run.specs.Labelling.{QuoteIs, LabelStands, HasFront, IsBehind, AreKeptTexts, AreFrontTexts}
 use Rattle.at_run.specs.Features.{AreLineFeatures}
-use Rattle.at_run.specs.Gathering.{Asked, IsOwnOf, IsGathered, CountsAll, IsChecked, IsLineRead, AddsFeature, JoinsGathered, KeepsOwn}
-use Rattle.at_run.proofs.LineBytes.{plain_valid, blanks_valid}
+use Rattle.at_run.specs.Gathering.{Asked, IsGathered, CountsAll, IsChecked, IsLineRead, JoinsGathered, KeepsOwn}
+use Rattle.at_query.proofs.LineBytes.{plain_valid, blanks_valid}
 use Rattle.at_run.proofs.LabelSteps.{without_quote, plain_syntax, label_front, label_spelled, label_syntax}
 use Rattle.at_run.proofs.FaultLists.{first_one, first_joined}
 use Rattle.at_run.proofs.KeptLabels.{kept_label}
@@ -166,22 +167,23 @@ module _ (asked : Asked) where
 
 -- ---- a line that is put behind those before it
 
-pub owns_more : (old : Gathered) (a b c : Accumulator) → old ≡ Kept a → JoinsAccumulators a b c → KeepsOwn old (Kept b) (Kept c)
-owns_more old a b c e joins = rw e (λ asked h k. (h.0 ++ k.0, joins asked.query h.0 k.0 h.1 k.1))
+-- what is kept of both is own of whatever both are own of
+pub joins_own : (left right both : Gathered) → IsJoinOf left right both → KeepsOwn left right both
+joins_own (Kept a) (Kept b) both (c, e, joins) = λ asked h k. rw e (h.0 ++ k.0, joins asked.query h.0 k.0 h.1 k.1)
+joins_own (Kept a) (Failed f) both e = λ asked h k. rw e tt
+joins_own (Failed f) (Kept b) both e = λ asked h k. rw e tt
+joins_own (Failed f) (Failed g) both (first, e, is) = λ asked h k. rw e tt
 
-pub joins_more : (old : Gathered) (a b c : Accumulator) → old ≡ Kept a → JoinsAccumulators a b c → JoinsGathered old (Kept b) (Kept c)
-joins_more old a b c e joins = rw e (λ asked ls ms (v, h, (fs, hf, pa)) (w, k, (gs, kg, pb)).
-    (All-append IsValidLine ls ms v w, first_joined asked.digits asked.how ls ms None None None h k refl, (fs ++ gs, features_joined asked.digits asked.how ls ms fs gs hf kg, joins asked.query fs gs pa pb)))
-
-pub stays_failed : (old : Gathered) (f : Fault) (b : Accumulator) → old ≡ Failed f → JoinsGathered old (Kept b) old
-stays_failed old f b e = rw e (λ asked ls ms h k valid. first_joined asked.digits asked.how ls ms (Some f) None (Some f) (h (each_part ls ms valid).0) k.1 refl)
-
-pub fails_first : (old : Gathered) (a : Accumulator) (f : Fault) → old ≡ Kept a → JoinsGathered old (Failed f) (Failed f)
-fails_first old a f e = rw e (λ asked ls ms h k valid. first_joined asked.digits asked.how ls ms None (Some f) (Some f) h.1 (k (each_part ls ms valid).1) refl)
-
-pub fails_again : (old : Gathered) (g f first : Fault) → old ≡ Failed g → Some first ≡ first_fault (Some g) (Some f) → JoinsGathered old (Failed f) (Failed first)
-fails_again old g f first e first_is =
-    rw e (λ asked ls ms h k valid. first_joined asked.digits asked.how ls ms (Some g) (Some f) (Some first) (h (each_part ls ms valid).0) (k (each_part ls ms valid).1) first_is)
+-- and is what is gathered of the joined lines
+pub joins_lines : (left right both : Gathered) → IsJoinOf left right both → JoinsGathered left right both
+joins_lines (Kept a) (Kept b) both (c, e, joins) = λ asked ls ms (v, h, (fs, hf, pa)) (w, k, (gs, kg, pb)).
+    rw e (All-append IsValidLine ls ms v w, first_joined asked.digits asked.how ls ms None None None h k refl, (fs ++ gs, features_joined asked.digits asked.how ls ms fs gs hf kg, joins asked.query fs gs pa pb))
+joins_lines (Kept a) (Failed f) both e = λ asked ls ms h k.
+    rw e (λ valid. first_joined asked.digits asked.how ls ms None (Some f) (Some f) h.1 (k (each_part ls ms valid).1) refl)
+joins_lines (Failed f) (Kept b) both e = λ asked ls ms h k.
+    rw e (λ valid. first_joined asked.digits asked.how ls ms (Some f) None (Some f) (h (each_part ls ms valid).0) k.1 refl)
+joins_lines (Failed f) (Failed g) both (first, e, is) = λ asked ls ms h k.
+    rw e (λ valid. first_joined asked.digits asked.how ls ms (Some f) (Some g) (Some first) (h (each_part ls ms valid).0) (k (each_part ls ms valid).1) is)
 
 -- a feature that is read
 pub owns_feature : (query : Query) (f : Feature) (old new : Gathered) → AddsFeature query f old new → IsOwnOf query old → IsOwnOf query new

@@ -19,13 +19,13 @@ use Rattle.at_query.specs.Parts.{IsPart}
 use Rattle.at_query.proofs.OneAnswer.{one_result, one_part, one_join}
 use Rattle.at_geojson.specs.Roles.{features_of}
 use Rattle.at_geojson.specs.Wholes.{faults_of}
+use Rattle.at_seq.proofs.OneSequence.{one_seq_fault, one_seq_features}
 use Rattle.at_run.specs.declared.faults.RunFault.{RunFault}
 use Rattle.at_run.specs.declared.faults.RunFault.TheVariants.{Found, Memory}
 use Rattle.at_run.specs.declared.faults.JoinFault.{JoinFault}
 use Rattle.at_run.specs.declared.faults.JoinFault.TheVariants as joins
 use Rattle.at_run.specs.declared.forms.Form.{Form}
-use Rattle.at_run.specs.declared.forms.Form.TheVariants.{GeoJson, Wkt}
-use Rattle.at_run.specs.Places.{IsLeastCount}
+use Rattle.at_run.specs.declared.forms.Form.TheVariants.{GeoJson, Wkt, Seq}
 use Rattle.at_run.specs.Features.{IsLineFeature, AreLineFeatures, AreFileFeatures}
 use Rattle.at_wkt.specs.Meaning.{shape_of}
 use Rattle.at_run.specs.Labels.{texts_of}
@@ -35,10 +35,6 @@ use Rattle.at_run.specs.JsonFiles.{HaveJsonFaults, HasJsonFaultBehind}
 use Rattle.at_run.specs.Files.{HasFileFaultIn, TheFileFaultIn, AreJsonFeatures, AreFileFeaturesIn}
 use Rattle.at_run.specs.Joins.{first_end}
 use Rattle.at_run.specs.Answers.{IfFound, IsFilePart, IsFileAnswer, IsJoinAnswer, IsJoinFault, TheFilesFaults, IsTheJoinFault}
-
--- the least count of blocks that serves is one
-pub one_least_count : (blocks m n : ℕ) → IsLeastCount blocks m → IsLeastCount blocks n → m ≡ n
-one_least_count blocks m n h k = omega (arith, h.least n k.is_count k.enough, k.least m h.is_count h.enough)
 
 module _ (digits : ℕ) (how : Coords) where
   pub one_feature : (line : FileLine) (f g : Feature) → IsLineFeature digits how line f → IsLineFeature digits how line g → f ≡ g
@@ -72,15 +68,17 @@ module _ (digits : ℕ) (how : Coords) where
   one_json_features : (bytes : List ℕ) (fs gs : List Feature) → AreJsonFeatures digits how bytes fs → AreJsonFeatures digits how bytes gs → fs ≡ gs
   one_json_features bytes fs gs (t, p, e) (u, q, k) = e ∙ (ap (features_of digits how) (sym (one_tree (base_of bytes) (drop (base_of bytes) bytes) t u p q)) ∙ sym k)
 
--- ---- a file of either form
+-- ---- a file of any form
 
 -- at most one first fault, or none, and not both
 pub one_file_fault_in : (form : Form) (digits : ℕ) (how : Coords) (bytes : List ℕ) (f g : Option Fault) → HasFileFaultIn form digits how bytes f → HasFileFaultIn form digits how bytes g → f ≡ g
 one_file_fault_in Wkt digits how bytes f g h k = one_behind digits how (utf8_fault bytes) bytes f g h k
+one_file_fault_in Seq digits how bytes f g h k = one_seq_fault digits how bytes f g h k
 one_file_fault_in GeoJson digits how bytes f g h k = one_json_behind digits how (utf8_fault bytes) bytes f g h k
 
 pub one_file_features_in : (form : Form) (digits : ℕ) (how : Coords) (bytes : List ℕ) (fs gs : List Feature) → AreFileFeaturesIn form digits how bytes fs → AreFileFeaturesIn form digits how bytes gs → fs ≡ gs
 one_file_features_in Wkt digits how bytes fs gs h k = one_file_features digits how bytes fs gs h k
+one_file_features_in Seq digits how bytes fs gs h k = one_seq_features digits how bytes fs gs h k
 one_file_features_in GeoJson digits how bytes fs gs h k = one_json_features digits how bytes fs gs h k
 
 module _ (form : Form) (digits : ℕ) (how : Coords) where

@@ -12,21 +12,25 @@ use Rattle.at_query.specs.Results.{IsResult}
 use Rattle.at_query.specs.Parts.{IsPart, AreFew}
 use Rattle.at_geojson.specs.Roles.{features_of}
 use Rattle.at_run.specs.declared.forms.Form.{Form}
-use Rattle.at_run.specs.declared.forms.Form.TheVariants.{GeoJson, Wkt}
+use Rattle.at_run.specs.declared.forms.Form.TheVariants.{GeoJson, Wkt, Seq}
 use Rattle.at_run.specs.Files.{AreFileFeaturesIn}
 use Rattle.at_run.specs.Answers.{IsFilePart, IsFileAnswer}
-use Rattle.at_run.proofs.FileSizes.{few_of_size, file_features_few, features_in_range as lines_in_range}
-use Rattle.at_run.proofs.JsonSizes.{json_features_size}
-use Rattle.at_run.proofs.JsonFeatures.{json_features_in_range}
+use Rattle.at_run.proofs.FileSizes.{file_features_few, features_in_range as lines_in_range}
+use Rattle.at_query.proofs.ShapeSizes.{few_of_size}
+use Rattle.at_seq.proofs.JsonSizes.{json_features_size}
+use Rattle.at_seq.proofs.SequenceSizes.{seq_features_few, seq_features_in_range}
+use Rattle.at_seq.proofs.JsonFeatures.{json_features_in_range}
 
 module _ (digits : ℕ) (how : Coords) (bytes : List ℕ) (fs : List Feature) where
   -- a file has few features
   pub features_few : (form : Form) → length bytes ≤ 2 ^ 28 → AreFileFeaturesIn form digits how bytes fs → AreFew fs
   features_few Wkt short are = file_features_few digits how bytes fs short are
-  features_few GeoJson short (t, is, same) = subst AreFew (sym same) (few_of_size digits how (features_of digits how t) (length bytes) (json_features_size digits how bytes t is) short)
+  features_few Seq short are = seq_features_few digits how bytes fs short are
+  features_few GeoJson short (t, is, same) = subst AreFew (sym same) (few_of_size (features_of digits how t) (length bytes) (json_features_size digits how bytes t is) short)
 
   pub features_in_range : (form : Form) → AreFileFeaturesIn form digits how bytes fs → AreFeaturesInRange fs
   features_in_range Wkt are = lines_in_range digits how (lines_of bytes) fs are
+  features_in_range Seq are = seq_features_in_range digits how bytes fs are
   features_in_range GeoJson (t, is, same) = subst AreFeaturesInRange (sym same) (json_features_in_range digits how t)
 
 module _ (form : Form) (digits : ℕ) (how : Coords) (query : Query) (bytes : List ℕ) (part : Part) (h : IsFilePart form digits how query bytes part) where

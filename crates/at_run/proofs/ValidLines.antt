@@ -11,8 +11,8 @@ use Rattle.at_text.specs.Separated.{placed}
 use Rattle.at_wkt.specs.Lines.{FileLine, pieces_from, is_line_feed, without_return, line_of, is_blank_text, lines_in, lines_of}
 use Rattle.at_wkt.proofs.LineMerges.{base_within}
 use Rattle.at_run.specs.Gathering.{AreValid}
-use Rattle.at_run.proofs.LineBytes.{blank_text_valid, byte_valid}
-use Rattle.at_run.proofs.ValidSpans.{faultless, valid_faultless}
+use Rattle.at_query.proofs.LineBytes.{blank_text_valid, byte_valid}
+use Rattle.at_blocks.proofs.ValidSpans.{faultless, valid_faultless}
 
 -- ---- text before and behind an ASCII byte
 

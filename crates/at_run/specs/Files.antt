@@ -6,8 +6,9 @@ use Rattle.at_nest.specs.Tree.{Tree}
 use Rattle.at_nest.specs.Syntax.{IsFileOf}
 use Rattle.at_query.specs.declared.features.Feature.{Feature}
 use Rattle.at_geojson.specs.Roles.{features_of}
+use Rattle.at_seq.specs.Sequences.{HasSeqFault, AreSeqFeatures}
 use Rattle.at_run.specs.declared.forms.Form.{Form}
-use Rattle.at_run.specs.declared.forms.Form.TheVariants.{GeoJson, Wkt}
+use Rattle.at_run.specs.declared.forms.Form.TheVariants.{GeoJson, Wkt, Seq}
 use Rattle.at_run.specs.Features.{AreFileFeatures}
 use Rattle.at_run.specs.LineFaults.{HasLinesFault}
 use Rattle.at_run.specs.JsonFiles.{HasJsonFileFault}
@@ -16,6 +17,7 @@ use Rattle.at_run.specs.JsonFiles.{HasJsonFileFault}
 abbrev pub HasFileFaultIn : Form → ℕ → Coords → List ℕ → Option Fault → Type 0
 HasFileFaultIn GeoJson digits how bytes first = HasJsonFileFault digits how bytes first
 HasFileFaultIn Wkt digits how bytes first = HasLinesFault digits how bytes first
+HasFileFaultIn Seq digits how bytes first = HasSeqFault digits how bytes first
 
 -- no other is the file's first fault
 abbrev pub TheFileFaultIn : Form → ℕ → Coords → List ℕ → Option Fault → Type 0
@@ -30,3 +32,4 @@ AreJsonFeatures digits how bytes features = (t : Tree) × IsFileOf bytes t × (f
 abbrev pub AreFileFeaturesIn : Form → ℕ → Coords → List ℕ → List Feature → Type 0
 AreFileFeaturesIn GeoJson digits how bytes features = AreJsonFeatures digits how bytes features
 AreFileFeaturesIn Wkt digits how bytes features = AreFileFeatures digits how bytes features
+AreFileFeaturesIn Seq digits how bytes features = AreSeqFeatures digits how bytes features

@@ -4,19 +4,18 @@ use Rattle.std.specs.Prelude.{◌≡◌, ℕ, List, [], ◌∷◌, ◌++◌, Opt
 use Rattle.std.specs.List.{AllByRecursion}
 use Rattle.std.specs.Str.{IsUtf8}
 use Rattle.at_text.specs.declared.faults.Fault.{Fault}
-use Rattle.at_text.specs.Faults.{first_fault, first_of}
+use Rattle.at_text.specs.Faults.{first_of}
 use Rattle.at_fixed.specs.declared.rounding.Coords.{Coords}
 use Rattle.at_wkt.specs.Lines.{FileLine}
 use Rattle.at_query.specs.declared.query.queries.Query.{Query}
 use Rattle.at_query.specs.declared.features.Feature.{Feature}
 use Rattle.at_query.specs.declared.query.queries.Verb.TheVariants as verbs
-use Rattle.at_query.specs.declared.answer.parts.Part.TheVariants.{Count}
 use Rattle.at_query.specs.declared.answer.accumulators.Accumulator.{Accumulator}
-use Rattle.at_query.specs.declared.answer.accumulators.Accumulator.TheVariants.{Part}
 use Rattle.at_query.specs.Ranges.{IsFeatureInRange}
-use Rattle.at_query.specs.Accumulators.{IsAccumulated, AreOfOneVerb, JoinsAccumulators}
-use Rattle.at_run.specs.declared.gathered.Gathered.{Gathered}
-use Rattle.at_run.specs.declared.gathered.Gathered.TheVariants.{Kept, Failed}
+use Rattle.at_query.specs.Accumulators.{IsAccumulated}
+use Rattle.at_query.specs.GatheredParts.{IsOwnOf, counted_of}
+use Rattle.at_query.specs.declared.answer.gathered.Gathered.{Gathered}
+use Rattle.at_query.specs.declared.answer.gathered.Gathered.TheVariants.{Kept, Failed}
 use Rattle.at_run.specs.Features.{IsLineFeature, AreLineFeatures}
 use Rattle.at_run.specs.LineFaults.{HaveFaults}
 
@@ -39,10 +38,6 @@ IsKeptOfLines asked lines kept = (features : List Feature) × AreLineFeatures as
     × IsAccumulated asked.query features kept
 
 -- what the query keeps of some features, or a fault
-abbrev pub IsOwnOf : Query → Gathered → Type 0
-IsOwnOf query (Kept kept) = (features : List Feature) × IsAccumulated query features kept
-IsOwnOf query (Failed fault) = Unit {0}
-
 abbrev pub IsOwn : Asked → Gathered → Type 0
 IsOwn asked gathered = IsOwnOf asked.query gathered
 
@@ -60,24 +55,6 @@ IsGathered asked (Failed fault) lines = AreValid lines → IsFirstOfLines asked.
 -- nothing but the count of all features is asked for
 abbrev pub CountsAll : Query → Type 0
 CountsAll query = (query.verb ≡ verbs.Count) × (query.tests ≡ [])
-
--- what is then kept of a line with this first fault, or with none
-abbrev pub counted_of : Option Fault → Gathered
-counted_of None = Kept (Part (Count 1))
-counted_of (Some fault) = Failed fault
-
--- where neither is a fault, both are of one verb
-abbrev pub AreJoinable : Gathered → Gathered → Type 0
-AreJoinable (Kept left) (Kept right) = AreOfOneVerb left right
-AreJoinable _ _ = Unit {0}
-
--- what is kept of both, or the first of the faults; what is kept beside a fault is let go
-abbrev pub IsJoinOf : Gathered → Gathered → Gathered → Type 0
-IsJoinOf (Kept left) (Kept right) both = (kept : Accumulator) × (both ≡ Kept kept) × JoinsAccumulators left right kept
-IsJoinOf (Kept left) (Failed fault) both = both ≡ Failed fault
-IsJoinOf (Failed fault) (Kept right) both = both ≡ Failed fault
-IsJoinOf (Failed left) (Failed right) both = (fault : Fault) × (both ≡ Failed fault)
-    × (Some fault ≡ first_fault (Some left) (Some right))
 
 -- whatever is asked, and of whatever lines these were gathered, it is what is gathered of the joined lines
 abbrev pub JoinsGathered : Gathered → Gathered → Gathered → Type 0
@@ -103,9 +80,3 @@ pub record IsLineRead (asked : Asked) (line : FileLine) (read : Feature) : Type 
   pub is_feature : IsLineFeature asked.digits asked.how line feature
   pub keeps : (before : List Feature) (kept : Accumulator) → IsAccumulated asked.query (before ++ read ∷ []) kept
       → IsAccumulated asked.query (before ++ feature ∷ []) kept
-
--- the feature is put behind those of which the one is kept; a fault stays as it is
-abbrev pub AddsFeature : Query → Feature → Gathered → Gathered → Type 0
-AddsFeature query feature (Kept old) new = (kept : Accumulator) × (new ≡ Kept kept)
-    × ((fs : List Feature) → IsAccumulated query fs old → IsAccumulated query (fs ++ feature ∷ []) kept)
-AddsFeature query feature (Failed fault) new = new ≡ Failed fault

@@ -1,16 +1,14 @@
 -- What public contracts say: a reader has to believe these.
-pub mod Places
 pub mod Labels
 pub mod LineFaults
 pub mod Features
 pub mod JsonFiles
-pub mod Encodings
 pub mod JsonFragments
 pub mod Files
 pub mod Answers
 pub mod Joins
 pub mod Gathering
 pub mod Readers
-pub mod Blocks
 -- Of private functions and fields: nothing here has to be believed.
 pub mod Labelling
+pub mod SequenceEnds

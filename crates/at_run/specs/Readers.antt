@@ -6,9 +6,9 @@ use Rattle.at_wkt.specs.Folding.{OwnFold, StandsFor}
 use Rattle.at_query.specs.declared.query.queries.Query.{Query}
 use Rattle.at_query.specs.Keeping.{Asked as JsonAsked}
 use Rattle.at_run.specs.declared.forms.Form.{Form}
-use Rattle.at_run.specs.declared.forms.Form.TheVariants.{GeoJson, Wkt}
+use Rattle.at_run.specs.declared.forms.Form.TheVariants.{GeoJson, Wkt, Seq}
 use Rattle.at_run.specs.declared.readers.FileFragment.{FileFragment}
-use Rattle.at_run.specs.declared.readers.FileFragment.TheVariants.{Lines, Json}
+use Rattle.at_run.specs.declared.readers.FileFragment.TheVariants.{Lines, Json, Unread}
 use Rattle.at_run.specs.Gathering.{Asked, IsOwn, IsGathered}
 use Rattle.at_run.specs.JsonFragments.{StandsForText}
 
@@ -25,8 +25,10 @@ of_lines asks = record { query = asks.query; digits = asks.digits; how = asks.ho
 abbrev pub of_json : Asks → JsonAsked
 of_json asks = record { query = asks.query; digits = asks.digits; how = asks.how }
 
--- the fragment is of the reader's form, and stands for the bytes as one of that form does
+-- the fragment is of the reader's form, and stands for the bytes as one of that form does; of a sequence nothing is read
+-- yet
 abbrev pub StandsInForm : Asks → ℕ → List ℕ → FileFragment → Type 0
 StandsInForm asks at bytes (Lines fragment) = (asks.form ≡ Wkt)
     × StandsFor (OwnFold (IsOwn (of_lines asks)) (IsGathered (of_lines asks))) at bytes fragment
 StandsInForm asks at bytes (Json fragment) = (asks.form ≡ GeoJson) × StandsForText (of_json asks) at bytes fragment
+StandsInForm asks at bytes Unread = asks.form ≡ Seq

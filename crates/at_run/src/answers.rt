@@ -3,28 +3,28 @@
 ghost use Rattle.std.specs.Prelude.{◌≡◌, ◌≢◌, ◌-◌, ◌<◌, ◌≤◌, ◌^◌, length, MatchResult, None, Some, Err};
 ghost use Rattle.at_text.specs.Texts.{base_of as text_begin};
 ghost use Rattle.at_query.specs.Ranges.{IsQueryInRange};
-ghost use Rattle.at_run.specs.Places.{first_place, last_place};
-ghost use Rattle.at_run.specs.Blocks.{SomeGivenUp};
+ghost use Rattle.at_blocks.specs.Places.{first_place, last_place};
+ghost use Rattle.at_blocks.specs.Blocks.{SomeGivenUp};
 ghost use Rattle.at_run.specs.Files.{HasFileFaultIn, TheFileFaultIn};
 ghost use Rattle.at_run.specs.Answers.{IfFound, IsFilePart, IsFileAnswer};
 
-use crate::cuts::Cuts;
 use crate::faults::RunFault;
 use crate::forms::Form;
-use crate::jobs::run_file;
 use crate::readers::Reader;
+use crate::sequences::end_of_sequence;
+use at_blocks::{Cuts, run_file};
 use at_crew::Gate;
 use at_fixed::Coords;
 use at_query::{Answer, Part, Query, Verb, answer_of};
+use at_seq::part_seq;
 use std::alloc::Global;
 use std::thread::Threads;
 
-/// The part of a file's features under a query, or the file's first fault. It is what [`answer`] answers from, and
-/// what two files are joined by; the cuts, the passes and the gate are those of `answer`.
+/// The part of a file whose blocks are read by [`Reader`].
 ///
 /// # Errors
 /// Those of `answer`.
-pub fn part<G: Gate, R: Threads + Sync>(
+fn part_of_pieces<G: Gate, R: Threads + Sync>(
     rt: &R,
     alloc: Global,
     bytes: &[u8],
@@ -53,6 +53,44 @@ pub fn part<G: Gate, R: Threads + Sync>(
         return Err(RunFault::Memory);
     };
     reader.finish_pieces(alloc, bytes, whole)
+}
+
+/// The part of a file's features under a query, or the file's first fault. It is what [`answer`] answers from, and
+/// what two files are joined by; the cuts, the passes and the gate are those of `answer`.
+///
+/// The blocks of a sequence are read by at_seq, which has all the file's bytes at hand.
+///
+/// # Errors
+/// Those of `answer`.
+pub fn part<G: Gate, R: Threads + Sync>(
+    rt: &R,
+    alloc: Global,
+    bytes: &[u8],
+    form: Form,
+    cuts: &Cuts,
+    query: &Query,
+    digits: u8,
+    how: Coords,
+    workers: u32,
+    gate: &G,
+) -> Result<Part, RunFault>
+    requires short { length bytes.now ≤ 2 ^ 28 }
+    requires first { first_place cuts.now ≡ text_begin bytes.now }
+    requires last { last_place cuts.now ≡ length bytes.now }
+    requires in_range { IsQueryInRange query.now }
+    requires workers { (0 < workers) × (workers ≤ 64) }
+    ensures answer { MatchResult result (IsFilePart form digits how query.now bytes.now)
+        (λ end. IfFound end (λ fault. HasFileFaultIn form digits how bytes.now (Some fault))) }
+    ensures given_up { SomeGivenUp (G.given_up gate.now) 0 (length cuts.now - 1) → result ≡ Err RunFault.Memory }
+{
+    match form {
+        Form::Seq => end_of_sequence(part_seq(
+            rt, alloc, bytes, cuts, query, digits, how, workers, gate,
+        )),
+        _ => part_of_pieces(
+            rt, alloc, bytes, form, cuts, query, digits, how, workers, gate,
+        ),
+    }
 }
 
 /// The answer to a query over a file's features, or the file's first fault.

@@ -7,4 +7,6 @@ pub enum Form {
     GeoJson,
     /// A geometry a line, with or without a label (OGC 06-103r4 section 7).
     Wkt,
+    /// GeoJSON texts, each behind the byte RS (RFC 8142).
+    Seq,
 }

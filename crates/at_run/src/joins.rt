@@ -4,16 +4,16 @@ ghost use Rattle.std.specs.Prelude.{◌≡◌, ◌-◌, ◌<◌, ◌≤◌, ◌^
 ghost use Rattle.at_text.specs.Texts.{base_of as text_begin};
 ghost use Rattle.at_query.specs.Ranges.{IsQueryInRange};
 ghost use Rattle.at_query.specs.Parts.{AreProper};
-ghost use Rattle.at_run.specs.Places.{first_place, last_place};
-ghost use Rattle.at_run.specs.Blocks.{NoneGivenUp};
+ghost use Rattle.at_blocks.specs.Places.{first_place, last_place};
+ghost use Rattle.at_blocks.specs.Blocks.{NoneGivenUp};
 ghost use Rattle.at_run.specs.Files.{HasFileFaultIn};
 ghost use Rattle.at_run.specs.Answers.{IfFound, IsFilePart, IsJoinAnswer, IsJoinFault, TheFilesFaults, IsTheJoinFault};
 ghost use Rattle.at_run.specs.Joins.{PairsWith, EndsSecond};
 
 use crate::answers::part;
-use crate::cuts::Cuts;
 use crate::faults::{JoinFault, RunFault};
 use crate::forms::Form;
+use at_blocks::Cuts;
 use at_crew::Gate;
 use at_fixed::Coords;
 use at_join::pairs_grid;
@@ -83,7 +83,7 @@ fn entries<G: Gate, R: Threads + Sync>(
 /// # Errors
 /// `Second` is the second file's fault, exactly where it has one. `Memory` comes where an allocation was refused, and
 /// in the place of an answer wherever the gate gives up a cell.
-pub fn join_with<G: Gate, R: Threads + Sync>(
+fn join_with<G: Gate, R: Threads + Sync>(
     rt: &R,
     alloc: Global,
     first: Entries,

@@ -10,9 +10,9 @@ ghost use Rattle.at_run.specs.Answers.{IfFound, IsFilePart};
 ghost use Rattle.at_run.specs.JsonFiles.{EndsJson, text_end, root_end};
 ghost use Rattle.at_run.specs.JsonFragments.{StandsForText};
 
-use crate::encodings::is_valid_around;
 use crate::faults::RunFault;
 use crate::json_fragments::JsonFragment;
+use at_blocks::is_valid_around;
 use at_geojson::{GeoAlgebra, RootEnd, root_part};
 use at_nest::{Fragment, NestEnd, finish};
 use at_query::Part;

@@ -4,7 +4,7 @@ ghost use Rattle.std.specs.Prelude.{ℕ, ◌+◌, ◌≤◌, ◌^◌, length};
 ghost use Rattle.at_text.specs.Spans.{AreNeighbours, IsMerged};
 ghost use Rattle.at_run.specs.JsonFragments.{StandsForText};
 
-use crate::encodings::{joined_span, valid_span};
+use at_blocks::{joined_span, valid_span};
 use at_geojson::GeoAlgebra;
 use at_nest::{Fragment, merge, run_block};
 use at_text::Span;

@@ -11,7 +11,7 @@ ghost use Rattle.at_run.specs.Labels.{LabelledLine, label_name as the_label_name
 ghost use Rattle.at_run.specs.Labelling.{QuoteStands, QuoteIs, LabelStands, IsBehind, asks_label as label_asked};
 ghost use Rattle.at_run.specs.Labelling.{AreKeptTexts, AreFrontTexts};
 
-use crate::encodings::is_valid;
+use at_blocks::is_valid;
 use at_lex::{Units, take_text, units};
 use at_query::{Test, TextPair, TextPairs};
 use at_text::{Fault, FaultKind, Memory, stop_at};

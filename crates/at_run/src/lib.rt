@@ -2,15 +2,16 @@
 //!
 //! [`answer`] reads each block without knowing what stands before it, merges the results of neighbours, and gives the
 //! answer over the file's features or the file's first fault. What its contract says of the two has no word of the
-//! [`Cuts`], of the passes that run at once, or of the order of their steps: that is what "for every cut" and "for
-//! every order" mean.
+//! cuts, of the passes that run at once, or of the order of their steps: that is what "for every cut" and "for every
+//! order" mean.
 //!
-//! A file of Well-Known Text has a geometry a line, and a line may begin with a label (RFC 8259 section 7).
+//! A file is of one of three forms: one GeoJSON text, a sequence of such texts (at_seq), or lines of Well-Known Text, of
+//! which each has a geometry and may begin with a label (RFC 8259 section 7).
 //!
 //! [`answer_join`] does so for two files whose features are joined.
 //!
-//! What is done with a block is a reader's own (`Pieces` of at_text). [`run_file`] has a crew run the blocks of any
-//! reader, and [`run_blocks`] runs them one after another.
+//! [`Reader`] is the reader of pieces of any form, for whoever has them read in another order. The pieces of a sequence
+//! it reads when all bytes are there.
 //!
 //! `query` counts features. It is asked of a file of two lines, which two passes read in two blocks:
 //! ```
@@ -23,14 +24,8 @@
 #![tactic(auto)]
 
 mod answers;
-mod blocks;
-mod cuts;
-mod encodings;
 mod faults;
-mod feature_cuts;
 mod forms;
-mod gathered;
-mod jobs;
 mod joins;
 mod json_files;
 mod json_fragments;
@@ -38,15 +33,11 @@ mod labels;
 mod line_files;
 mod line_queries;
 mod readers;
+mod sequences;
 
 pub use answers::{answer, part};
-pub use blocks::run_blocks;
-pub use cuts::Cuts;
-pub use encodings::{is_valid_around, joined_span, valid_span};
 pub use faults::{JoinFault, RunFault};
 pub use forms::Form;
-pub use gathered::{Gathered, join_into};
-pub use jobs::run_file;
-pub use joins::{answer_join, entries_of, join_with, of_all};
+pub use joins::{answer_join, entries_of, of_all};
 pub use json_fragments::JsonFragment;
 pub use readers::{FileFragment, Reader};

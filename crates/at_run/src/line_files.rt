@@ -14,9 +14,8 @@ ghost use Rattle.at_run.specs.Files.{HasFileFaultIn};
 ghost use Rattle.at_run.specs.Answers.{IfFound, IsFilePart};
 
 use crate::faults::RunFault;
-use crate::gathered::Gathered;
 use crate::line_queries::LineQuery;
-use at_query::{Accumulator, Part};
+use at_query::{Accumulator, Gathered, Part};
 use at_text::utf8_fault;
 use at_wkt::{LineFragment, finish_lines};
 use std::alloc::Global;

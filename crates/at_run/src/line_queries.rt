@@ -4,17 +4,34 @@ ghost use Rattle.std.specs.Prelude.{◌≡◌, ◌≢◌, false, ◌+◌, ◌≤
 ghost use Rattle.at_wkt.specs.Answers.{IfFound};
 ghost use Rattle.at_wkt.specs.Folding.{AddsLines};
 ghost use Rattle.at_query.specs.Ranges.{IsQueryInRange};
+ghost use Rattle.at_query.specs.GatheredParts.{IsJoinOf};
 ghost use Rattle.at_query.specs.declared.query.queries.Verb.{Verb};
 ghost use Rattle.at_run.specs.Gathering.{Asked, CountsAll, IsOwn, IsGathered, IsChecked, IsLineRead};
 
-use crate::gathered::{Gathered, add_end, add_fault, add_feature, add_lent, count_line, joined};
 use crate::labels::{behind_label, front_texts};
 use at_fixed::Coords;
-use at_query::{Accumulator, Feature, LentFeature, Query, Verb};
+use at_query::{
+    Accumulator, Feature, Gathered, LentFeature, Query, Verb, add_fault, add_feature, add_lent,
+    count_line, joined,
+};
 use at_text::{Fault, Memory};
 use at_wkt::{Fold, LineFault, Room, read_line};
 use std::alloc::Global;
 use std::marker::Model;
+
+/// Puts a line that has no shape behind those before it.
+fn add_end(gathered: &mut Gathered, end: LineFault) -> Result<(), Memory>
+    ensures { IfOk result (λ _. (fault : Fault) × (end ≡ LineFault.Found fault)
+        × IsJoinOf gathered.old (Gathered.Failed fault) gathered.new) }
+{
+    match end {
+        LineFault::Found(fault) => {
+            add_fault(gathered, fault);
+            Ok(())
+        }
+        LineFault::Memory => Err(Memory),
+    }
+}
 
 /// A query that is asked of lines, each of which is a feature at its offset, with its label as its one text.
 #[derive(Drop)]

@@ -10,14 +10,14 @@ ghost use Rattle.at_run.specs.Readers.{Asks, of_lines, of_json, StandsInForm};
 
 use crate::faults::RunFault;
 use crate::forms::Form;
-use crate::gathered::Gathered;
 use crate::json_files::finish_json_file;
 use crate::json_fragments::{JsonFragment, merge_json, run_json};
 use crate::line_files::finish_line_file;
 use crate::line_queries::LineQuery;
+use crate::sequences::finish_sequence;
 use at_fixed::Coords;
 use at_geojson::GeoAlgebra;
-use at_query::{Part, Query};
+use at_query::{Gathered, Part, Query};
 use at_text::Pieces;
 use at_wkt::{LineFragment, merge_lines, run_lines};
 use std::alloc::Global;
@@ -35,6 +35,32 @@ pub struct Reader {
 pub enum FileFragment {
     Lines(LineFragment<Gathered>),
     Json(JsonFragment),
+    /// Of a sequence, which is read when all its bytes are there.
+    Unread,
+}
+
+impl FileFragment {
+    /// What a piece of a file of lines gives.
+    fn lines(self) -> LineFragment<Gathered>
+        requires { (lines : _) × (self ≡ FileFragment.Lines lines) }
+        ensures { self ≡ FileFragment.Lines result }
+    {
+        match self {
+            FileFragment::Lines(lines) => lines,
+            _ => unreachable!(),
+        }
+    }
+
+    /// What a piece of a file of GeoJSON gives.
+    fn json(self) -> JsonFragment
+        requires { (json : _) × (self ≡ FileFragment.Json json) }
+        ensures { self ≡ FileFragment.Json result }
+    {
+        match self {
+            FileFragment::Json(json) => json,
+            _ => unreachable!(),
+        }
+    }
 }
 
 impl Model for Reader {
@@ -97,6 +123,7 @@ impl Reader {
         match whole {
             FileFragment::Lines(whole) => finish_line_file(alloc, &self.of_lines(), bytes, whole),
             FileFragment::Json(whole) => finish_json_file(alloc, self.of_json(), bytes, whole),
+            FileFragment::Unread => finish_sequence(alloc, self.of_json(), bytes),
         }
     }
 }
@@ -110,6 +137,7 @@ impl Pieces for Reader {
         match self.form {
             Form::Wkt => FileFragment::Lines(run_lines(alloc, &self.of_lines(), piece, base)),
             Form::GeoJson => FileFragment::Json(run_json(alloc, self.of_json(), piece, base)),
+            Form::Seq => FileFragment::Unread,
         }
     }
 
@@ -120,15 +148,20 @@ impl Pieces for Reader {
         left: FileFragment,
         right: FileFragment,
     ) -> FileFragment {
-        match (left, right) {
-            (FileFragment::Lines(left), FileFragment::Lines(right)) => {
-                FileFragment::Lines(merge_lines(alloc, &self.of_lines(), bytes, left, right))
+        match left {
+            FileFragment::Lines(left) => {
+                FileFragment::Lines(merge_lines(
+                    alloc,
+                    &self.of_lines(),
+                    bytes,
+                    left,
+                    right.lines(),
+                ))
             }
-            (FileFragment::Json(left), FileFragment::Json(right)) => {
-                FileFragment::Json(merge_json(alloc, self.of_json(), bytes, left, right))
+            FileFragment::Json(left) => {
+                FileFragment::Json(merge_json(alloc, self.of_json(), bytes, left, right.json()))
             }
-            (FileFragment::Lines(_), FileFragment::Json(_)) => unreachable!(),
-            (FileFragment::Json(_), FileFragment::Lines(_)) => unreachable!(),
+            FileFragment::Unread => FileFragment::Unread,
         }
     }
 }

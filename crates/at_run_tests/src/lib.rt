@@ -2,4 +2,6 @@
 #![tactic(auto)]
 
 #[cfg(test)]
+mod join_tests;
+#[cfg(test)]
 mod tests;

@@ -3,14 +3,15 @@
 ghost use Rattle.std.specs.Prelude.{◌≡◌, ◌≢◌, ◌∷◌, ◌≤◌, ◌^◌, [], length, IfSome, IfOk};
 ghost use Rattle.at_text.specs.Texts.{base_of as text_begin};
 ghost use Rattle.at_query.specs.Ranges.{IsTestInRange, IsQueryInRange};
-ghost use Rattle.at_run.specs.Places.{first_place, last_place};
+ghost use Rattle.at_blocks.specs.Places.{first_place, last_place};
 
+use at_blocks::Cuts;
 use at_crew::{Free, Gate};
 use at_fixed::Coords;
 use at_geom::{Extent, Pos};
 use at_lex::Units;
-use at_query::{Entries, Query, Test, Tests, Verb, answer_text};
-use at_run::{Cuts, Form, JoinFault, RunFault, answer, answer_join, join_with};
+use at_query::{Query, Test, Tests, Verb, answer_text};
+use at_run::{Form, JoinFault, RunFault, answer, answer_join};
 use at_text::{Fault, FaultKind, base_of};
 use std::alloc::{AllocError, Global};
 use std::process::Abort;
@@ -477,7 +478,7 @@ fn joins_of_two_forms(rt: HostRuntime) -> Result<(), Fail> {
     Ok(())
 }
 
-/// What two files are told of where one of them has no entries.
+/// What two files are told of where the first of them has no entries.
 #[test]
 fn ends_of_joins(rt: HostRuntime) -> Result<(), Fail> {
     let fault = Fault {
@@ -486,16 +487,6 @@ fn ends_of_joins(rt: HostRuntime) -> Result<(), Fail> {
     };
     assert!(rt; RunFault::Found(fault).of_first() == JoinFault::First(fault));
     assert!(rt; RunFault::Memory.of_first() == JoinFault::Memory);
-    for (end, told) in [
-        (RunFault::Found(fault), JoinFault::Second(fault)),
-        (RunFault::Memory, JoinFault::Memory),
-    ] {
-        let first = Entries::from_vec(Vec::new(rt.alloc()));
-        match join_with(&rt, rt.alloc(), first, Err(end), 2, &Free) {
-            Ok(_) => assert!(rt; false, "an answer"),
-            Err(found) => assert!(rt; found == told),
-        }
-    }
     Ok(())
 }
 
@@ -569,90 +560,6 @@ fn tests_of_queries(rt: HostRuntime) -> Result<(), Fail> {
     )?;
     let told = told_of_pairs(&rt, rt.alloc(), bytes.as_slice(), &query)?;
     assert!(rt; told.as_str() == "0\n44\n");
-    Ok(())
-}
-
-/// Whether so many blocks have these borders.
-fn is_even(
-    alloc: Global,
-    first: u32,
-    last: u32,
-    blocks: u32,
-    expected: &[u32],
-) -> Result<bool, Fail>
-    requires order { first ≤ last }
-    requires end { last ≤ 2 ^ 28 }
-    requires some { 1 ≤ blocks }
-    requires few { blocks ≤ 4096 }
-{
-    let even = Cuts::even(alloc, first, last, blocks)?;
-    Ok(even.as_slice() == expected)
-}
-
-#[test]
-fn places(rt: HostRuntime) -> Result<(), Fail> {
-    assert!(rt; is_even(rt.alloc(), 0, 3, 3, &[0, 0, 1, 2, 3])?);
-    assert!(rt; is_even(rt.alloc(), 3, 31, 2, &[3, 17, 31])?);
-    assert!(rt; is_even(rt.alloc(), 5, 5, 1, &[5, 5])?);
-    let most = Cuts::even(rt.alloc(), 0, 268_435_456, 4096)?;
-    assert!(rt; most.as_slice().len() == 4097);
-    Ok(())
-}
-
-fn is_accepted(alloc: Global, places: &[u32]) -> Result<bool, AllocError> {
-    Ok(Cuts::from_places(Vec::from_slice(alloc, places)?).is_some())
-}
-
-fn compare_lists<R: Abort + AllocGlobal>(
-    rt: &R,
-    lists: &[&'static [u32]],
-    expected: bool,
-) -> Result<(), Fail> {
-    for (row, places) in lists.iter().enumerate() {
-        let accepted = is_accepted(rt.alloc(), places)?;
-        assert!(rt; accepted == expected, "list {row}");
-    }
-    Ok(())
-}
-
-/// Whether a list of so many zeros is accepted.
-fn are_zeros_accepted(alloc: Global, count: usize) -> Result<bool, AllocError> {
-    Ok(Cuts::from_places(vec![in alloc; 0; count]?).is_some())
-}
-
-#[test]
-fn lists_of_places(rt: HostRuntime) -> Result<(), Fail> {
-    let refused: [&'static [u32]; 4] = [&[0, 5, 3], &[0, 1, 2, 3], &[0], &[]];
-    let accepted: [&'static [u32]; 2] = [&[7, 7], &[0, 5, 5]];
-    compare_lists(&rt, &refused, false)?;
-    compare_lists(&rt, &accepted, true)?;
-    assert!(rt; are_zeros_accepted(rt.alloc(), 4097)?);
-    assert!(rt; !are_zeros_accepted(rt.alloc(), 8193)?);
-    Ok(())
-}
-
-/// A feature by its type, an object that is none, and three that begin as features do, one of them on a line of its own.
-const OBJECTS: &[u8] =
-    b"[{\"type\":\"Feature\"},{\"a\":1},{\"id\":2} ,\n {\"bbox\":[]},{\"properties\":0}]";
-
-/// Whether these cuts of the objects, moved to where features seem to begin, are those.
-fn are_moved(alloc: Global, places: &[u32], expected: &[u32]) -> Result<bool, AllocError> {
-    let Some(cuts) = Cuts::from_places(Vec::from_slice(alloc, places)?) else {
-        return Ok(false);
-    };
-    if cuts.last() as usize > OBJECTS.len() {
-        return Ok(false);
-    }
-    Ok(cuts.near_features(OBJECTS).as_slice() == expected)
-}
-
-#[test]
-fn cuts_near_features(rt: HostRuntime) -> Result<(), Fail> {
-    let alloc = rt.alloc();
-    assert!(rt; are_moved(alloc, &[0, 5, 30, 45, 69], &[0, 27, 37, 51, 69])?);
-    assert!(rt; are_moved(alloc, &[0, 27, 38, 41, 69], &[0, 27, 38, 51, 69])?);
-    assert!(rt; are_moved(alloc, &[0, 69], &[0, 69])?);
-    assert!(rt; are_moved(alloc, &[0, 0, 0, 69, 69], &[0, 0, 27, 69, 69])?);
     Ok(())
 }
 

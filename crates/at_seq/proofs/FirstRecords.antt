@@ -19,7 +19,7 @@ use Rattle.at_nest.proofs.TreeParts.{array_parts, object_parts, text_made}
 use Rattle.at_query.specs.Keeping.{Asked}
 use Rattle.at_geojson.specs.declared.root.FeatureFront.{FeatureFront}
 use Rattle.at_geojson.specs.Wholes.{IsFeatureFront}
-use Rattle.at_run.specs.declared.gathered.Gathered.{Gathered}
+use Rattle.at_query.specs.declared.answer.gathered.Gathered.{Gathered}
 use Rattle.at_seq.specs.Records.{is_separator, are_spaces, records_in}
 use Rattle.at_seq.specs.Gathering.{AddsRecords, HasRecordPart, IsSeparatorBehind, AddsFirst}
 use Rattle.at_seq.proofs.PieceRecords.{one_record, other_stands, part_front}

@@ -26,9 +26,9 @@ use Rattle.at_geojson.specs.declared.root.RootEnd.{RootEnd}
 use Rattle.at_geojson.specs.Atoms.{IsFold, IsGeoAtom}
 use Rattle.at_geojson.specs.Roles.{features_of}
 use Rattle.at_geojson.specs.Wholes.{faults_of, found_end, IsAnswer}
-use Rattle.at_run.specs.declared.gathered.Gathered.{Gathered}
-use Rattle.at_run.specs.declared.gathered.Gathered.TheVariants.{Kept, Failed}
-use Rattle.at_run.specs.Gathering.{AreJoinable, IsJoinOf}
+use Rattle.at_query.specs.declared.answer.gathered.Gathered.{Gathered}
+use Rattle.at_query.specs.declared.answer.gathered.Gathered.TheVariants.{Kept, Failed}
+use Rattle.at_query.specs.GatheredParts.{AreJoinable, IsJoinOf}
 use Rattle.at_text.specs.Separated.{Piece}
 use Rattle.at_seq.specs.Sequences.{HasRecordFaults, HaveRecordFaults, AreRecordFeatures}
 use Rattle.at_seq.specs.Gathering.{IsFirstOfRecords, IsGathered, AddsRecords, HasRecordPart, IsEndFault}

@@ -1,8 +1,11 @@
+pub mod JsonSizes
+pub mod JsonFeatures
 pub mod PieceRecords
 pub mod Gathers
 pub mod Merges
 pub mod SequenceEnds
 pub mod OneSequence
 pub mod ProperEntries
+pub mod SequenceSizes
 pub mod WholeRecords
 pub mod FirstRecords

@@ -11,9 +11,9 @@ use Rattle.at_query.specs.Keeping.{Asked}
 use Rattle.at_geojson.specs.declared.asked.GeoAlgebra.{GeoAlgebra}
 use Rattle.at_geojson.specs.declared.atoms.atom.GeoAtom.{GeoAtom}
 use Rattle.at_geojson.specs.Atoms.{IsGeoAtom}
-use Rattle.at_run.specs.declared.gathered.Gathered.{Gathered}
-use Rattle.at_run.specs.Encodings.{IsValidIn}
-use Rattle.at_run.specs.Gathering.{AreJoinable, IsJoinOf}
+use Rattle.at_query.specs.declared.answer.gathered.Gathered.{Gathered}
+use Rattle.at_blocks.specs.Encodings.{IsValidIn}
+use Rattle.at_query.specs.GatheredParts.{AreJoinable, IsJoinOf}
 use Rattle.at_wkt.proofs.LineMerges.{length-span_of}
 use Rattle.at_text.specs.Separated.{Piece}
 use Rattle.at_seq.specs.Records.{is_separator, records_in}

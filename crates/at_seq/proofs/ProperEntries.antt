@@ -22,8 +22,8 @@ use Rattle.at_query.specs.Keeping.{Asked}
 use Rattle.at_query.proofs.ProperEntries.{entries_are_proper}
 use Rattle.at_geojson.specs.Roles.{features_of}
 use Rattle.at_geojson.specs.Wholes.{faults_of}
-use Rattle.at_run.proofs.ProperFeatures.{empties, not_empty, no_first, at_of}
-use Rattle.at_run.proofs.JsonFeatures.{Climbs, climbs_rise, climbs_wider, climbs_on, text_climbs, text_features_proper}
+use Rattle.at_query.proofs.ProperShapes.{empties, not_empty, no_first, at_of}
+use Rattle.at_seq.proofs.JsonFeatures.{Climbs, climbs_rise, climbs_wider, climbs_on, text_climbs, text_features_proper}
 use Rattle.at_text.specs.Separated.{Piece, placed}
 use Rattle.at_seq.specs.Records.{are_spaces, is_separator, pieces_of, records_in}
 use Rattle.at_seq.proofs.PieceRecords.{records_in-append, no_record, one_record}
@@ -90,7 +90,7 @@ module _ (digits : ℕ) (how : Coords) where
   records_rise at [] fs none are = subst (λ z. Climbs at at (map at_of z)) (sym are) tt
   records_rise at (text ∷ rest) fs none are = rise_step at text rest fs (are_spaces text) refl (λ gs. records_rise (at + length text + 1) rest gs) none are
 
-  seq_features_proper : (bytes : List ℕ) (fs : List Feature) → HasSeqFault digits how bytes None → AreSeqFeatures digits how bytes fs → AreProperFeatures fs
+  pub seq_features_proper : (bytes : List ℕ) (fs : List Feature) → HasSeqFault digits how bytes None → AreSeqFeatures digits how bytes fs → AreProperFeatures fs
   seq_features_proper bytes fs h are = by_encoding (utf8_fault bytes) h where
     by_pieces : (at : ℕ) (texts : List (List ℕ)) → Faultless (records_in (drop 1 (placed at texts))) → AreRecordFeatures digits how (records_in (drop 1 (placed at texts))) fs → AreProperFeatures fs
     by_pieces at [] (faults, have, none) also = record { rising = climbs_rise at at (map at_of fs) (records_rise at [] fs (faults, have, none) also); features = records_proper [] faults fs have none also }

@@ -25,15 +25,15 @@ use Rattle.at_geojson.specs.declared.atoms.atom.GeoAtom.{GeoAtom}
 use Rattle.at_geojson.specs.declared.asked.GeoAlgebra.{GeoAlgebra}
 use Rattle.at_nest.specs.declared.fragments.Fragment.{Fragment}
 use Rattle.at_geojson.specs.Atoms.{IsOwn, IsFold, IsGeoAtom}
-use Rattle.at_run.specs.declared.gathered.Gathered.{Gathered}
-use Rattle.at_run.specs.declared.gathered.Gathered.TheVariants.{Kept, Failed}
+use Rattle.at_query.specs.declared.answer.gathered.Gathered.{Gathered}
+use Rattle.at_query.specs.declared.answer.gathered.Gathered.TheVariants.{Kept, Failed}
 use Rattle.at_seq.specs.declared.ends.SeqEnd.{SeqEnd}
 use Rattle.at_seq.specs.declared.fragments.PartedText.{PartedText}
 use Rattle.at_seq.specs.declared.fragments.SeqRead.{SeqRead}
 use Rattle.at_seq.specs.declared.fragments.SeqText.{SeqText}
 use Rattle.at_seq.specs.declared.fragments.SeqText.TheVariants.{Lone, Parted}
 use Rattle.at_seq.specs.declared.fragments.SeqFragment.TheVariants.{Read}
-use Rattle.at_run.specs.Encodings.{IsValidIn}
+use Rattle.at_blocks.specs.Encodings.{IsValidIn}
 use Rattle.at_seq.specs.Records.{pieces_from, pieces_of, records_in, records_of}
 use Rattle.at_seq.specs.Sequences.{stray_faults, head_faults, HasSeqFaultBehind, HasSeqFault}
 use Rattle.at_seq.specs.Answers.{IfFound, IsSeqPart}

@@ -20,7 +20,6 @@ use Rattle.at_nest.specs.Syntax.{JsonText}
 use Rattle.at_nest.proofs.TreeParts.{padded_parts, after_parts, named_behind, array_parts, object_parts, text_parts, padded_made}
 use Rattle.at_text.specs.Separated.{placed}
 use Rattle.at_seq.specs.Records.{pieces_from, is_separator}
-use Rattle.at_join.proofs.Extents.{four_true}
 
 -- RS, and the byte that a filter puts in the place of one
 abbrev pub is_mark : ℕ → Bool
@@ -102,6 +101,13 @@ number_unparted n h =
     (joined n.whole (fraction_text n.fraction ++ exponent_text n.exponent) (whole_part n.whole h.whole) behind)
 
 -- ---- strings
+
+four_true : (a b c d : Bool) → ((a && b) && (c && d)) ≡ true → (a ≡ true) × (b ≡ true) × (c ≡ true) × (d ≡ true)
+four_true true true true true h = (refl, refl, refl, refl)
+four_true true true true false h = absurd (cc)
+four_true true true false d h = absurd (cc)
+four_true true false c d h = absurd (cc)
+four_true false b c d h = absurd (cc)
 
 hex_digit : (b : ℕ) → is_ascii_hexdigit b ≡ true → is_mark b ≡ false
 hex_digit b h = other is_ascii_hexdigit (refl, refl) b h

@@ -8,8 +8,8 @@ use Rattle.at_query.specs.declared.answer.parts.Part.{Part}
 use Rattle.at_query.specs.declared.answer.accumulators.Accumulator.{Accumulator}
 use Rattle.at_query.specs.Parts.{IsPart}
 use Rattle.at_query.specs.Accumulators.{IsAccumulated}
-use Rattle.at_run.specs.declared.gathered.Gathered.{Gathered}
-use Rattle.at_run.specs.declared.gathered.Gathered.TheVariants.{Kept, Failed}
+use Rattle.at_query.specs.declared.answer.gathered.Gathered.{Gathered}
+use Rattle.at_query.specs.declared.answer.gathered.Gathered.TheVariants.{Kept, Failed}
 use Rattle.at_seq.specs.declared.ends.SeqEnd.{SeqEnd}
 use Rattle.at_seq.specs.declared.ends.SeqEnd.TheVariants.{Found, Memory}
 

@@ -8,7 +8,7 @@ use Rattle.at_query.specs.Keeping.{Asked}
 use Rattle.at_geojson.specs.declared.asked.GeoAlgebra.{GeoAlgebra}
 use Rattle.at_geojson.specs.declared.atoms.atom.GeoAtom.{GeoAtom}
 use Rattle.at_geojson.specs.Atoms.{IsGeoAtom}
-use Rattle.at_run.specs.Encodings.{IsValidIn}
+use Rattle.at_blocks.specs.Encodings.{IsValidIn}
 use Rattle.at_seq.specs.declared.fragments.Inner.{Inner}
 use Rattle.at_seq.specs.declared.fragments.PartedText.{PartedText}
 use Rattle.at_seq.specs.declared.fragments.SeqText.{SeqText}

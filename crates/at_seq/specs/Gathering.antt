@@ -19,8 +19,8 @@ use Rattle.at_query.specs.declared.answer.accumulators.Accumulator.{Accumulator}
 use Rattle.at_query.specs.Parts.{IsPart}
 use Rattle.at_query.specs.Accumulators.{IsAccumulated}
 use Rattle.at_query.specs.Keeping.{Asked}
-use Rattle.at_run.specs.declared.gathered.Gathered.{Gathered}
-use Rattle.at_run.specs.declared.gathered.Gathered.TheVariants.{Kept, Failed}
+use Rattle.at_query.specs.declared.answer.gathered.Gathered.{Gathered}
+use Rattle.at_query.specs.declared.answer.gathered.Gathered.TheVariants.{Kept, Failed}
 use Rattle.at_text.specs.Separated.{Piece}
 use Rattle.at_seq.specs.Records.{is_separator, records_in}
 use Rattle.at_seq.specs.Sequences.{HaveRecordFaults, AreRecordFeatures}

@@ -3,7 +3,7 @@
 ghost use Rattle.std.specs.Prelude.{◌≡◌, ◌+◌, ◌≤◌, ◌^◌, length, MatchResult, IfOk, None, Some, drop};
 ghost use Rattle.at_text.specs.Faults.{first_fault as first_one, first_of};
 ghost use Rattle.at_text.specs.Texts.{utf8_fault as encoding_fault, base_of as text_begin};
-ghost use Rattle.at_run.specs.Encodings.{IsValidIn};
+ghost use Rattle.at_blocks.specs.Encodings.{IsValidIn};
 ghost use Rattle.at_seq.specs.Records.{records_of};
 ghost use Rattle.at_seq.specs.Sequences.{stray_faults, HasSeqFault};
 ghost use Rattle.at_seq.specs.Answers.{IfFound, IsSeqPart};
@@ -16,8 +16,8 @@ use crate::fragments::{PartedText, SeqFragment, SeqRead, SeqText};
 use crate::records::add_fragment;
 use crate::searches::spaces_len;
 use crate::seq_files::SeqFile;
-use at_query::{Accumulator, Part};
-use at_run::{Gathered, is_valid_around};
+use at_blocks::is_valid_around;
+use at_query::{Accumulator, Gathered, Part};
 use at_text::{Fault, FaultKind, Memory, Span, base_of, first_fault, utf8_fault};
 
 /// Syntax at the first byte of a text that is no white space, where there is one.

@@ -10,10 +10,10 @@ ghost use Rattle.at_seq.specs.Fragments.{HoldsFragment};
 use crate::records::{Trials, add_fragment, add_next};
 use crate::searches::separator_place;
 use crate::seq_files::SeqFile;
+use at_blocks::{joined_span, valid_span};
 use at_geojson::GeoAlgebra;
 use at_nest::{Fragment, merge, run_block};
-use at_query::Accumulator;
-use at_run::{Gathered, join_into, joined_span, valid_span};
+use at_query::{Accumulator, Gathered, join_into};
 use at_text::{Memory, Span};
 
 /// A span with a separator. Offsets are of the file.

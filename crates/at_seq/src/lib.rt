@@ -25,4 +25,4 @@ mod seq_files;
 mod sequences;
 
 pub use ends::SeqEnd;
-pub use sequences::part_seq;
+pub use sequences::{part_of_whole, part_seq};

@@ -17,8 +17,7 @@ use crate::searches::{separator_behind, separator_place, spaces_len};
 use crate::seq_files::SeqFile;
 use at_geojson::{FeatureFront, GeoAlgebra, GeoAtom, RootEnd, feature_front, root_part};
 use at_nest::{Algebra, Attempt, Fragment, NestEnd, finish_span, run_block};
-use at_query::{Accumulator, Part};
-use at_run::{Gathered, join_into};
+use at_query::{Accumulator, Gathered, Part, join_into};
 use at_text::{Fault, FaultKind, Memory, Span};
 use std::alloc::Global;
 

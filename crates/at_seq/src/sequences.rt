@@ -3,17 +3,22 @@
 ghost use Rattle.std.specs.Prelude.{◌≡◌, ◌-◌, ◌<◌, ◌≤◌, ◌^◌, length, MatchResult, IfOk, None, Some, Err};
 ghost use Rattle.at_text.specs.Texts.{base_of as text_begin};
 ghost use Rattle.at_query.specs.Ranges.{IsQueryInRange};
-ghost use Rattle.at_run.specs.Places.{first_place, last_place};
-ghost use Rattle.at_run.specs.Blocks.{SomeGivenUp};
+ghost use Rattle.at_blocks.specs.Places.{first_place, last_place};
+ghost use Rattle.at_blocks.specs.Blocks.{SomeGivenUp};
 ghost use Rattle.at_seq.specs.Sequences.{HasSeqFault, TheSeqFault};
 ghost use Rattle.at_seq.specs.Answers.{IfFound, IsSeqPart, HasProperEntries};
 
 use crate::ends::SeqEnd;
+use crate::finishing::finish_spans;
+use crate::fragments::run_span;
 use crate::readers::SeqReader;
+use crate::seq_files::SeqFile;
+use at_blocks::{Cuts, run_file};
 use at_crew::Gate;
 use at_fixed::Coords;
+use at_geojson::GeoAlgebra;
 use at_query::{Part, Query};
-use at_run::{Cuts, run_file};
+use at_text::{Span, base_of};
 use std::alloc::Global;
 use std::thread::Threads;
 
@@ -60,4 +65,26 @@ pub fn part_seq<G: Gate, R: Threads + Sync>(
         return Err(SeqEnd::Memory);
     };
     reader.finish_pieces(alloc, whole)
+}
+
+/// The part of a sequence's features under the algebra's query, or the sequence's first fault, where all bytes are there
+/// and are read at once, without threads.
+///
+/// # Errors
+/// `Found` is the sequence's first fault, exactly where it has one. `Memory` comes where an allocation was refused.
+pub fn part_of_whole(alloc: Global, algebra: &GeoAlgebra, bytes: &[u8]) -> Result<Part, SeqEnd>
+    requires { length bytes.now ≤ 2 ^ 28 }
+    ensures { MatchResult result (IsSeqPart algebra.now.digits algebra.now.how algebra.now.query bytes.now)
+        (λ end. IfFound end (λ fault. HasSeqFault algebra.now.digits algebra.now.how bytes.now (Some fault))) }
+{
+    let file = SeqFile {
+        algebra,
+        alloc,
+        bytes,
+    };
+    let text = Span {
+        from: base_of(bytes),
+        to: bytes.len() as u32,
+    };
+    finish_spans(&file, run_span(&file, text))
 }

@@ -3,10 +3,10 @@
 ghost use Rattle.std.specs.Prelude.{◌^◌, []};
 ghost use Rattle.at_query.specs.Ranges.{IsQueryInRange};
 
+use at_blocks::Cuts;
 use at_crew::{Free, Gate};
 use at_fixed::Coords;
 use at_query::{Offsets, Part, Query, Tests, Verb};
-use at_run::Cuts;
 use at_seq::{SeqEnd, part_seq};
 use at_text::base_of;
 use std::alloc::{AllocError, Global};

@@ -2,7 +2,7 @@
 
 ghost use Rattle.std.specs.Prelude.{◌≡◌, ◌<◌, ◌≤◌, ℕ, List, false, IfOk, MatchResult};
 ghost use Rattle.at_query.specs.Parts.{AreProper};
-ghost use Rattle.at_run.specs.Blocks.{NoneGivenUp};
+ghost use Rattle.at_blocks.specs.Blocks.{NoneGivenUp};
 ghost use Rattle.at_task.specs.Feeds.{asks_of, HasBytes};
 ghost use Rattle.at_task.specs.PairEnds.{IsPairAnswered, ArePairsOf};
 ghost use Rattle.at_task.specs.JoinFeeds.{first_of, second_of, has_answered};

@@ -6,8 +6,8 @@ use Rattle.std.specs.List.Sorted.{IsNonDecreasing}
 use Rattle.std.proofs.lemmas.List.FromFn.{length-range_with_len}
 use Rattle.std.proofs.lemmas.Slice.Zip.{AllZip-long}
 use Rattle.at_text.specs.Spans.{StandsAt, AreNeighbours}
-use Rattle.at_run.specs.Places.{first_place, last_place}
-use Rattle.at_run.proofs.Covered.{next_neighbours}
+use Rattle.at_blocks.specs.Places.{first_place, last_place}
+use Rattle.at_blocks.proofs.Covered.{next_neighbours}
 use Rattle.bench_blocks.specs.Fragments.{IsFragment, AreFragments}
 
 module _ {F : Type 0} (R : ℕ → F → Type 0) where

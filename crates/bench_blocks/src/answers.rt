@@ -3,14 +3,15 @@
 ghost use Rattle.std.specs.Prelude.{◌≡◌, ◌≢◌, ◌≤◌, ◌^◌, length, MatchResult, Some};
 ghost use Rattle.at_text.specs.Texts.{base_of as text_begin};
 ghost use Rattle.at_query.specs.Ranges.{IsQueryInRange};
-ghost use Rattle.at_run.specs.Places.{first_place, last_place};
+ghost use Rattle.at_blocks.specs.Places.{first_place, last_place};
 ghost use Rattle.at_run.specs.Files.{HasFileFaultIn};
 ghost use Rattle.at_run.specs.Answers.{IfFound, IsFileAnswer};
 
 use crate::blocks::run_by_rayon;
+use at_blocks::Cuts;
 use at_fixed::Coords;
 use at_query::{Answer, Query, Verb, answer_of};
-use at_run::{Cuts, Form, Reader, RunFault};
+use at_run::{Form, Reader, RunFault};
 use std::alloc::Global;
 use std::thread::Threads;
 

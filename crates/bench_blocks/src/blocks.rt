@@ -3,7 +3,7 @@
 ghost use Rattle.std.specs.Prelude.{◌≡◌, ◌+◌, ◌-◌, ◌<◌, ◌≤◌, ◌^◌, IfOk, length, slice_index};
 ghost use Rattle.std.specs.List.Sorted.{IsNonDecreasing};
 ghost use Rattle.at_text.specs.Spans.{StandsAt};
-ghost use Rattle.at_run.specs.Places.{first_place, last_place};
+ghost use Rattle.at_blocks.specs.Places.{first_place, last_place};
 ghost use Rattle.bench_blocks.specs.Fragments.{AreFragments};
 
 use at_text::Pieces;

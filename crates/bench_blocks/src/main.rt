@@ -12,10 +12,11 @@ mod answers;
 mod blocks;
 
 use answers::answer;
+use at_blocks::Cuts;
 use at_fixed::Coords;
 use at_io::{DiskShelf, ReadError, read_whole};
 use at_query::{Answer, Query, QueryEnd, Verb, answer_text, read_query};
-use at_run::{Cuts, Form, RunFault};
+use at_run::{Form, RunFault};
 use at_text::{MOST_BYTES, Memory, base_of};
 use std::alloc::Global;
 use std::io;

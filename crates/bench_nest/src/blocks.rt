@@ -6,9 +6,9 @@ ghost use Rattle.at_nest.specs.TextAnswers.{Answers};
 ghost use Rattle.bench_nest.specs.Nodes.{IsCount};
 
 use crate::nodes::Nodes;
+use at_blocks::{Cuts, run_file};
 use at_crew::Free;
 use at_nest::{Fragment, NestEnd, finish_span, merge, run_block};
-use at_run::{Cuts, run_file};
 use at_text::{Pieces, Span};
 use std::alloc::Global;
 use std::thread::Threads;

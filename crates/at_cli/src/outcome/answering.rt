@@ -3,10 +3,10 @@
 ghost use Rattle.std.specs.Prelude.{◌≡◌, ◌≢◌, ◌+◌, ◌≤◌, ◌^◌, List, ℕ, length, Some, None, IsSome, IsOk, IfOk, MatchResult};
 ghost use Rattle.at_query.specs.declared.query.queries.Verb.{Verb};
 ghost use Rattle.at_query.specs.Ranges.{IsQueryInRange};
-ghost use Rattle.at_run.specs.Answers.{IfFound};
-ghost use Rattle.at_run.specs.Places.{IsLeastCount, first_place, last_place};
+ghost use Rattle.at_run.specs.Answers.{IfFound, IsFileAnswer, IsJoinAnswer, IsJoinFault};
+ghost use Rattle.at_blocks.specs.Places.{IsLeastCount, first_place, last_place};
 ghost use Rattle.at_text.specs.Texts.{base_of as text_begin};
-ghost use Rattle.at_cli.specs.Answers.{HasFaultAs, IsAnswerAs, IsJoinAs, IsJoinFaultAs};
+ghost use Rattle.at_run.specs.Files.{HasFileFaultIn};
 ghost use Rattle.at_cli.specs.LineOf.{form_of as form_told, KeepsLimits};
 ghost use Rattle.at_cli.specs.Gates.{PassesGate};
 ghost use Rattle.at_cli.specs.Endings.{status_of};
@@ -14,14 +14,14 @@ ghost use Rattle.at_cli.specs.Loading.{IsLate, TellsAnswer, IsEndOf, IsEndOfJoin
 ghost use Rattle.at_cli.specs.Loading.{IsOneReady, IsTwoReady, IsReady, PassesLoaded, chunk_size as size_asked};
 
 use crate::outcome::ending::Ending;
-use crate::outcome::feeding::{fed_answer, fed_join, form_to_feed};
-use crate::outcome::files::{answer_as, join_as};
+use crate::outcome::feeding::{fed_answer, fed_join};
 use crate::outcome::loading::{Loaded, OneFile, TwoFiles, second_of, second_text};
-use crate::words::form::{FileForm, form_of};
+use crate::words::form::form_of;
 use crate::words::line::Line;
+use at_blocks::Cuts;
 use at_crew::Gate;
 use at_query::{Answer, Query, answer_text};
-use at_run::{Cuts, JoinFault, RunFault};
+use at_run::{Form, JoinFault, RunFault, answer, answer_join};
 use at_text::{Memory, base_of};
 use std::alloc::{AllocGlobal, Global};
 use std::random::RandomSource;
@@ -29,7 +29,7 @@ use std::sync::Wait;
 use std::thread::Threads;
 
 /// The cuts of a file into at least so many blocks: even ones, which in GeoJSON are moved to where features seem to begin.
-fn cuts_of(alloc: Global, bytes: &[u8], form: FileForm, blocks: u32) -> Result<Cuts, Memory>
+fn cuts_of(alloc: Global, bytes: &[u8], form: Form, blocks: u32) -> Result<Cuts, Memory>
     requires limit { length bytes.now ≤ 2 ^ 28 }
     requires blocks { (1 ≤ blocks) × (blocks ≤ 4096) }
     ensures first { IfOk result (λ cuts. first_place cuts ≡ text_begin bytes.now) }
@@ -38,9 +38,9 @@ fn cuts_of(alloc: Global, bytes: &[u8], form: FileForm, blocks: u32) -> Result<C
 {
     let cuts = Cuts::even(alloc, base_of(bytes), bytes.len() as u32, blocks)?;
     match form {
-        FileForm::GeoJson => Ok(cuts.near_features(bytes)),
-        FileForm::Wkt => Ok(cuts),
-        FileForm::Seq => Ok(cuts),
+        Form::GeoJson => Ok(cuts.near_features(bytes)),
+        Form::Wkt => Ok(cuts),
+        Form::Seq => Ok(cuts),
     }
 }
 
@@ -58,9 +58,9 @@ fn answer_in_blocks<G: Gate, R: Threads + Sync>(
     requires in_range { IsQueryInRange query.now }
     requires verb { query.now.verb ≢ Verb.Join }
     requires second { line.now.second ≡ None }
-    ensures answer { MatchResult result (IsAnswerAs (form_told line.now line.now.first) line.now.digits line.now.how
+    ensures answer { MatchResult result (IsFileAnswer (form_told line.now line.now.first) line.now.digits line.now.how
         query.now bytes.now)
-        (λ end. IfFound end (λ fault. HasFaultAs (form_told line.now line.now.first) line.now.digits line.now.how
+        (λ end. IfFound end (λ fault. HasFileFaultIn (form_told line.now line.now.first) line.now.digits line.now.how
         bytes.now (Some fault))) }
     ensures passes { IfOk result (λ _. PassesGate (G.given_up gate.now) line.now) }
 {
@@ -69,7 +69,7 @@ fn answer_in_blocks<G: Gate, R: Threads + Sync>(
         return Err(RunFault::Memory);
     };
     let (digits, how, workers) = (line.digits, line.how, line.workers);
-    answer_as(
+    answer(
         rt, alloc, bytes, form, &cuts, query, digits, how, workers, gate,
     )
 }
@@ -88,12 +88,12 @@ fn answer_in_chunks<R: Wait + RandomSource + AllocGlobal>(
     requires in_range { IsQueryInRange query.now }
     requires verb { query.now.verb ≢ Verb.Join }
     requires feed { line.now.feed ≡ Some size }
-    ensures answer { MatchResult result (IsAnswerAs (form_told line.now line.now.first) line.now.digits line.now.how
+    ensures answer { MatchResult result (IsFileAnswer (form_told line.now line.now.first) line.now.digits line.now.how
         query.now bytes.items)
-        (λ end. IfFound end (λ fault. HasFaultAs (form_told line.now line.now.first) line.now.digits line.now.how
+        (λ end. IfFound end (λ fault. HasFileFaultIn (form_told line.now line.now.first) line.now.digits line.now.how
         bytes.items (Some fault))) }
 {
-    let form = form_to_feed(line, line.first.as_str());
+    let form = form_of(line, line.first.as_str());
     let (digits, how) = (line.digits, line.how);
     fed_answer(rt, alloc, bytes, form, query, digits, how, size)
 }
@@ -115,9 +115,9 @@ fn join_in_blocks<G: Gate, R: Threads + Sync>(
     requires in_range { IsQueryInRange query.now }
     requires verb { query.now.verb ≡ Verb.Join }
     ensures answer { (second : List ℕ) → line.now.second ≡ Some second
-        → MatchResult result (IsJoinAs (form_told line.now line.now.first) (form_told line.now second) line.now.digits
+        → MatchResult result (IsJoinAnswer (form_told line.now line.now.first) (form_told line.now second) line.now.digits
         line.now.how query.now a.now b.now)
-        (IsJoinFaultAs (form_told line.now line.now.first) (form_told line.now second) line.now.digits line.now.how
+        (IsJoinFault (form_told line.now line.now.first) (form_told line.now second) line.now.digits line.now.how
         a.now b.now) }
     ensures passes { IfOk result (λ _. PassesGate (G.given_up gate.now) line.now) }
 {
@@ -129,7 +129,7 @@ fn join_in_blocks<G: Gate, R: Threads + Sync>(
     let Ok(cuts_b) = cuts_of(alloc, b, form_b, line.blocks) else {
         return Err(JoinFault::Memory);
     };
-    join_as(
+    answer_join(
         rt,
         alloc,
         a,
@@ -165,14 +165,14 @@ fn join_in_chunks<G: Gate, R: Threads + Sync + Wait + RandomSource + AllocGlobal
     requires in_range { IsQueryInRange query.now }
     requires verb { query.now.verb ≡ Verb.Join }
     ensures answer { (second : List ℕ) → line.now.second ≡ Some second
-        → MatchResult result (IsJoinAs (form_told line.now line.now.first) (form_told line.now second) line.now.digits
+        → MatchResult result (IsJoinAnswer (form_told line.now line.now.first) (form_told line.now second) line.now.digits
         line.now.how query.now a.items b.items)
-        (IsJoinFaultAs (form_told line.now line.now.first) (form_told line.now second) line.now.digits line.now.how
+        (IsJoinFault (form_told line.now line.now.first) (form_told line.now second) line.now.digits line.now.how
         a.items b.items) }
     ensures passes { IfOk result (λ _. PassesGate (G.given_up gate.now) line.now) }
 {
-    let form_a = form_to_feed(line, line.first.as_str());
-    let form_b = form_to_feed(line, second_text(line));
+    let form_a = form_of(line, line.first.as_str());
+    let form_b = form_of(line, second_text(line));
     let (digits, how, workers) = (line.digits, line.how, line.workers);
     fed_join(
         rt, alloc, a, form_a, b, form_b, query, digits, how, size, workers, gate,

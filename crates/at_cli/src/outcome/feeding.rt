@@ -1,19 +1,15 @@
 //! Answers over a file's bytes that a future takes in chunks.
 
-ghost use Rattle.std.specs.Prelude.{◌≡◌, ◌≢◌, ◌<◌, ◌≤◌, ◌^◌, [], false, length, IsSome, Some, IfOk, MatchResult};
+ghost use Rattle.std.specs.Prelude.{◌≡◌, ◌≢◌, ◌<◌, ◌≤◌, ◌^◌, [], false, length, Some, IfOk, MatchResult};
 ghost use Rattle.at_query.specs.Ranges.{IsQueryInRange};
 ghost use Rattle.at_run.specs.Files.{HasFileFaultIn};
 ghost use Rattle.at_run.specs.Answers.{IfFound, IsFileAnswer, IsJoinAnswer, IsJoinFault};
-ghost use Rattle.at_run.specs.Blocks.{NoneGivenUp};
+ghost use Rattle.at_blocks.specs.Blocks.{NoneGivenUp};
 ghost use Rattle.at_task.specs.Feeds.{source_of, asks_of, taken_of, has_given};
 ghost use Rattle.at_task.specs.SlicedChunks.{rest_of};
 ghost use Rattle.at_task.specs.JoinFeeds.{first_of, second_of, has_answered};
-ghost use Rattle.at_cli.specs.LineOf.{form_of as form_told, KeepsLimits};
-ghost use Rattle.at_cli.specs.Forms.{plain_form as plain_form_of, AsksSo};
+ghost use Rattle.at_cli.specs.Forms.{AsksSo};
 
-use crate::outcome::files::plain_form;
-use crate::words::form::form_of;
-use crate::words::line::Line;
 use at_crew::Gate;
 use at_fixed::Coords;
 use at_query::{Answer, Query, Verb};
@@ -27,18 +23,6 @@ use std::thread::Threads;
 
 /// How many bytes a poll of a feed takes at least before it lets others go on.
 const TURN: u32 = 16;
-
-/// The form of the file of that name, where files are read in chunks: it is no sequence.
-pub fn form_to_feed(line: &Line, name: &str) -> Form
-    requires line { KeepsLimits line.now }
-    requires feed { IsSome line.now.feed }
-    ensures { plain_form_of (form_told line.now name.now) ≡ Some result }
-{
-    match plain_form(form_of(line, name)) {
-        Some(form) => form,
-        None => unreachable!(),
-    }
-}
 
 /// A feed of a file's bytes in chunks of that size, none of which is waited for.
 fn feed_of(

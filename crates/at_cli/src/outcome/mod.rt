@@ -3,7 +3,6 @@
 pub mod answering;
 pub mod ending;
 pub mod feeding;
-pub mod files;
 pub mod loading;
 pub mod reading;
 pub mod run;

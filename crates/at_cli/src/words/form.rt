@@ -1,38 +1,28 @@
-//! The forms of files, and the one that a name says.
+//! The form of a file: the one that the words say, or else the one that its name says.
 
 ghost use Rattle.std.specs.Prelude.{◌≡◌};
 ghost use Rattle.at_cli.specs.Values.{form_by_name as form_that_name_says};
 ghost use Rattle.at_cli.specs.LineOf.{form_of as form_of_name};
 
 use crate::words::line::Line;
-
-/// How the bytes of a file are read.
-#[derive(Clone, Copy, Debug, PartialEq, Eq)]
-pub enum FileForm {
-    /// One JSON text (RFC 7946).
-    GeoJson,
-    /// A geometry a line, with or without a label (OGC 06-103r4 section 7).
-    Wkt,
-    /// GeoJSON texts, each behind the byte RS (RFC 8142).
-    Seq,
-}
+use at_run::Form;
 
 /// The form that a file's name says: WKT where it ends in `.wkt` or begins with `@w:`, and else GeoJSON. No name
 /// says a sequence.
-fn form_by_name(name: &str) -> FileForm
+fn form_by_name(name: &str) -> Form
     ensures { result ≡ form_that_name_says name.now }
 {
     let name = name.as_bytes();
     if name.ends_with(b".wkt") || name.starts_with(b"@w:") {
-        FileForm::Wkt
+        Form::Wkt
     } else {
-        FileForm::GeoJson
+        Form::GeoJson
     }
 }
 
 /// The form of the file of that name: the one that the line says, or else the one that the name says. It takes
 /// no memory.
-pub fn form_of(line: &Line, name: &str) -> FileForm
+pub fn form_of(line: &Line, name: &str) -> Form
     ensures { result ≡ form_of_name line.now name.now }
 {
     match line.form {

@@ -4,9 +4,9 @@ ghost use Rattle.std.specs.Prelude.{◌≡◌, ◌↔◌, map, string_bytes, IfO
 ghost use Rattle.at_cli.specs.LineOf.{SaysLine};
 ghost use Rattle.at_cli.specs.declared.words.line.Line.{Line};
 
-use crate::words::form::FileForm;
 use crate::words::said::said_by;
 use at_fixed::Coords;
+use at_run::Form;
 use at_text::Word;
 use std::alloc::{AllocError, Global};
 
@@ -14,7 +14,7 @@ use std::alloc::{AllocError, Global};
 #[derive(Drop)]
 pub struct Line {
     /// The form of both files, or none where each has the form that its name says.
-    pub form: Option<FileForm>,
+    pub form: Option<Form>,
     /// How numbers are taken.
     pub how: Coords,
     /// The decimal digits of a coordinate, 7 or 9: a unit is 10^-7 or 10^-9.

@@ -6,7 +6,6 @@ ghost use Rattle.at_cli.specs.Steps.{shown, given_in};
 ghost use Rattle.at_cli.specs.Said.{line_said};
 ghost use Rattle.at_cli.specs.declared.words.line.Line.{Line};
 
-use crate::words::form::FileForm;
 use crate::words::line::{Line, WordsEnd};
 use crate::words::names::{Names, names_of};
 use crate::words::pieces::{Pieces, gather};
@@ -14,6 +13,7 @@ use crate::words::values::{
     can_feed, coords_or_round, digits_or_seven, feed_said, form_said, number_or,
 };
 use at_fixed::Coords;
+use at_run::Form;
 use at_text::Word;
 use std::alloc::{AllocError, Global};
 
@@ -30,7 +30,7 @@ const MOST_WORKERS: u32 = 64;
 /// A line whose texts are the words themselves.
 #[derive(Clone, Copy)]
 pub struct Said<'w> {
-    pub form: Option<FileForm>,
+    pub form: Option<Form>,
     pub how: Coords,
     pub digits: u8,
     pub blocks: u32,

@@ -6,11 +6,11 @@ ghost use Rattle.std.specs.Option.{option_copied};
 ghost use Rattle.at_fixed.specs.declared.rounding.Coords.{Coords};
 ghost use Rattle.at_cli.specs.Values.{form_text, coords_text, SpellsDigits, IsWhole, GoesOn, IsFileName};
 ghost use Rattle.at_cli.specs.LineOf.{IsChosen, SpellsForm, SpellsFeed, CanFeed};
-ghost use Rattle.at_cli.specs.declared.words.form.FileForm.{FileForm};
+ghost use Rattle.at_run.specs.declared.forms.Form.{Form};
 
 use crate::words::flags::text_behind;
-use crate::words::form::FileForm;
 use at_fixed::Coords;
+use at_run::Form;
 
 /// The most bytes of a chunk.
 const MOST_FEED: u32 = 1_048_576;
@@ -64,21 +64,21 @@ pub fn number_or(default: u32, most: u32, text: Option<&str>) -> Option<u32>
 }
 
 /// The form that a text names.
-fn form_named(text: &str) -> Option<FileForm>
-    ensures { MatchOption result ((form : FileForm) → text.now ≢ form_text form) (λ form. text.now ≡ form_text form) }
+fn form_named(text: &str) -> Option<Form>
+    ensures { MatchOption result ((form : Form) → text.now ≢ form_text form) (λ form. text.now ≡ form_text form) }
 {
     match text {
-        "geojson" => Some(FileForm::GeoJson),
-        "wkt" => Some(FileForm::Wkt),
-        "seq" => Some(FileForm::Seq),
+        "geojson" => Some(Form::GeoJson),
+        "wkt" => Some(Form::Wkt),
+        "seq" => Some(Form::Seq),
         _ => None,
     }
 }
 
 /// The form that is said, or none where none is.
-pub fn form_said(text: Option<&str>) -> Option<Option<FileForm>>
+pub fn form_said(text: Option<&str>) -> Option<Option<Form>>
     ensures { MatchOption result
-        ((form : Option FileForm) → IsChosen None SpellsForm (option_to_list (option_copied text.entry)) form → ⊥)
+        ((form : Option Form) → IsChosen None SpellsForm (option_to_list (option_copied text.entry)) form → ⊥)
         (IsChosen None SpellsForm (option_to_list (option_copied text.entry))) }
 {
     match text {
@@ -147,7 +147,7 @@ pub fn feed_said(text: Option<&str>) -> Option<Option<u32>>
 }
 
 /// Whether files of the form can be read in chunks, where they are.
-pub fn can_feed(form: Option<FileForm>, feed: Option<u32>) -> bool
+pub fn can_feed(form: Option<Form>, feed: Option<u32>) -> bool
     ensures { IsTrue result ↔ CanFeed form feed }
 {
     match feed {
@@ -157,12 +157,12 @@ pub fn can_feed(form: Option<FileForm>, feed: Option<u32>) -> bool
 }
 
 /// Whether the form is said to be a sequence.
-fn is_seq(form: Option<FileForm>) -> bool
-    ensures { MatchBool result (form ≡ Some FileForm.Seq) (form ≢ Some FileForm.Seq) }
+fn is_seq(form: Option<Form>) -> bool
+    ensures { MatchBool result (form ≡ Some Form.Seq) (form ≢ Some Form.Seq) }
 {
     match form {
-        Some(FileForm::Seq) => true,
-        Some(FileForm::GeoJson | FileForm::Wkt) | None => false,
+        Some(Form::Seq) => true,
+        Some(Form::GeoJson | Form::Wkt) | None => false,
     }
 }
 

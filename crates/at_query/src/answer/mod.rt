@@ -5,6 +5,7 @@ pub mod accumulators;
 pub mod adding;
 pub mod answers;
 pub mod extents;
+pub mod gathered;
 pub mod holding;
 pub mod merging;
 pub mod parts;

@@ -12,7 +12,7 @@ use Rattle.at_query.specs.Accumulators.{IsAccumulated}
 use Rattle.at_run.specs.declared.faults.RunFault.{RunFault}
 use Rattle.at_run.specs.declared.faults.RunFault.TheVariants.{Memory}
 use Rattle.at_run.specs.declared.forms.Form.TheVariants.{Wkt}
-use Rattle.at_run.specs.declared.gathered.Gathered.TheVariants.{Kept, Failed}
+use Rattle.at_query.specs.declared.answer.gathered.Gathered.TheVariants.{Kept, Failed}
 use Rattle.at_run.specs.LineFaults.{HasLinesFault}
 use Rattle.at_run.specs.Gathering.{Asked, IsGathered}
 use Rattle.at_run.specs.Answers.{IfFound, IsFilePart}

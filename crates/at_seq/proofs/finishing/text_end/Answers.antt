@@ -1,7 +1,7 @@
 use Rattle.std.proofs.Common.{[], subst}
 use Rattle.at_query.specs.declared.query.queries.Query.{Query}
 use Rattle.at_query.specs.Accumulators.{IsAccumulated}
-use Rattle.at_run.specs.declared.gathered.Gathered.TheVariants.{Kept}
+use Rattle.at_query.specs.declared.answer.gathered.Gathered.TheVariants.{Kept}
 use Rattle.at_seq.proofs.Gathers.{gathered_none}
 use Rattle.at_seq.proofs.SequenceEnds.{ended, head_found, lone_found, lone_kept}
 use Rattle.at_seq.proofs.finishing.text_end.Goals as goal

@@ -11,4 +11,4 @@ pub join_into-requires : goal.join_into-requires
 join_into-requires c = added_joinable c.args.file.now.algebra.now c.args.file.now.bytes.now c.requires.beside.0 c.requires.beside.1 c.requires.beside.2 c.args.left c.args.right c.requires.beside.3 c.add_fragment.new.gathered c.in_ok-add_fragment.ensures
 
 pub returns : goal.returns
-returns c i j k n = parted_parted c.args.file.now.algebra.now c.args.file.now.bytes.now i j k c.args.left c.args.right n c.add_fragment.new.gathered c.join_into.new.gathered c.in_ok-add_fragment.ensures c.in_ok-join_into.ensures.both
+returns c i j k n = parted_parted c.args.file.now.algebra.now c.args.file.now.bytes.now i j k c.args.left c.args.right n c.add_fragment.new.gathered c.join_into.new.gathered c.in_ok-add_fragment.ensures c.in_ok-join_into.ensures

@@ -4,7 +4,7 @@ use Rattle.std.specs.List.Sorted.{IsNonDecreasing}
 use Rattle.rayon.specs.Numbers.{nat_range}
 use Rattle.rayon.proofs.ListFacts.{IfOk-then}
 use Rattle.rayon.proofs.ToStd.{nat_range-All}
-use Rattle.at_run.specs.Places.{last_place}
+use Rattle.at_blocks.specs.Places.{last_place}
 use Rattle.bench_blocks.specs.Fragments.{IsFragment}
 use Rattle.bench_blocks.proofs.blocks.fragments.Goals as goal
 

@@ -3,7 +3,7 @@ use Rattle.std.specs.Prelude.{slice_index}
 use Rattle.std.proofs.lemmas.List.{length_push}
 use Rattle.std.proofs.lemmas.Iterator.Adapters.{YieldsList-from_vec}
 use Rattle.std.proofs.lemmas.Iterator.Consumers.{YieldsList-turn, YieldsList-end}
-use Rattle.at_run.specs.Places.{first_place}
+use Rattle.at_blocks.specs.Places.{first_place}
 use Rattle.bench_blocks.proofs.BlockOrder.{next_beside, all_merged}
 use Rattle.bench_blocks.proofs.blocks.merge_all.Goals as goal
 

@@ -1,6 +1,6 @@
 use Rattle.std.proofs.Common.{List, ℕ, Some, MatchResult, subst}
-use Rattle.at_run.specs.Answers.{IfFound}
-use Rattle.at_cli.specs.Answers.{HasFaultAs, IsAnswerAs}
+use Rattle.at_run.specs.Answers.{IfFound, IsFileAnswer}
+use Rattle.at_run.specs.Files.{HasFileFaultIn}
 use Rattle.at_cli.specs.LineOf.{form_of}
 use Rattle.at_cli.specs.Gates.{PassesGate}
 use Rattle.at_cli.proofs.Loads.{ends_bytes, where_answered}
@@ -10,7 +10,7 @@ pub returns-clause-end : goal.returns-clause-end
 returns-clause-end g c =
     let line = c.args.file.line in
     let answer = c.answer_in_blocks-answer.result in
-    let P : List ℕ → Type 0 = λ bytes. MatchResult answer (IsAnswerAs (form_of line line.first) line.digits line.how c.args.file.query bytes) (λ end. IfFound end (λ fault. HasFaultAs (form_of line line.first) line.digits line.how bytes (Some fault))) in
+    let P : List ℕ → Type 0 = λ bytes. MatchResult answer (IsFileAnswer (form_of line line.first) line.digits line.how c.args.file.query bytes) (λ end. IfFound end (λ fault. HasFileFaultIn (form_of line line.first) line.digits line.how bytes (Some fault))) in
     (ends_bytes line c.args.file.query c.args.file.bytes.items answer c.end_of_one.result (subst P c.as_slice.ensures.value c.answer_in_blocks-answer.ensures.answer) c.end_of_one.ensures.end, c.end_of_one.ensures.late)
 
 pub returns-clause-passes : goal.returns-clause-passes

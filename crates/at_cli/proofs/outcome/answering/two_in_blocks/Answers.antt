@@ -1,5 +1,5 @@
 use Rattle.std.proofs.Common.{List, ℕ, MatchResult, subst}
-use Rattle.at_cli.specs.Answers.{IsJoinAs, IsJoinFaultAs}
+use Rattle.at_run.specs.Answers.{IsJoinAnswer, IsJoinFault}
 use Rattle.at_cli.specs.LineOf.{form_of}
 use Rattle.at_cli.specs.Gates.{PassesGate}
 use Rattle.at_cli.proofs.Loads.{ends_pair, where_answered}
@@ -10,8 +10,8 @@ returns-clause-end g c =
     let files = c.args.files in
     let line = files.line in
     let answer = c.join_in_blocks-answer.result in
-    let P : List ℕ → List ℕ → List ℕ → Type 0 = λ second a b. MatchResult answer (IsJoinAs (form_of line line.first) (form_of line second) line.digits line.how files.query a b)
-    (IsJoinFaultAs (form_of line line.first) (form_of line second) line.digits line.how a b) in (
+    let P : List ℕ → List ℕ → List ℕ → Type 0 = λ second a b. MatchResult answer (IsJoinAnswer (form_of line line.first) (form_of line second) line.digits line.how files.query a b)
+    (IsJoinFault (form_of line line.first) (form_of line second) line.digits line.how a b) in (
       (λ second e.
           let told = c.join_in_blocks-answer.ensures.answer second e in
           let first_told = subst (λ a. P second a c.as_slice-2.result.now) c.as_slice.ensures.value told in

@@ -7,16 +7,17 @@ use Rattle.at_query.specs.declared.query.queries.Test.{Test}
 use Rattle.at_wkt.specs.declared.answers.LineFault.{LineFault}
 use Rattle.at_wkt.specs.Answers.{IfFound, HasLineShape, HasFirstLineFault}
 use Rattle.at_wkt.specs.Lines.{FileLine}
-use Rattle.at_run.specs.declared.gathered.Gathered.TheVariants.{Failed}
-use Rattle.at_run.specs.Gathering.{Asked, IsGathered, AddsFeature}
+use Rattle.at_query.specs.declared.answer.gathered.Gathered.TheVariants.{Failed}
+use Rattle.at_query.specs.GatheredParts.{AddsFeature}
+use Rattle.at_run.specs.Gathering.{Asked, IsGathered}
 use Rattle.at_run.specs.Labelling.{AreFrontTexts}
-use Rattle.at_run.proofs.LineParts.{read_shape, read_fault, gathered_syntax, found_weaker, owns_feature, adds_feature}
+use Rattle.at_run.proofs.LineParts.{read_shape, read_fault, gathered_syntax, found_weaker, joins_own, joins_lines, owns_feature, adds_feature}
 use Rattle.at_run.proofs.line_queries.LineQuery.add_lent_line.Goals as goal
 
 pub returns-in-Err-clause-fold : goal.returns-in-Err-clause-fold
 returns-in-Err-clause-fold c lines before =
     let text = take c.args.len c.args.ahead.now in
-    c.add_fault.ensures.joins c.args.self.now lines (record { at = c.args.at; text = text } ∷ []) before (gathered_syntax c.args.self.now c.args.at text c.in-Err.fault c.in-Err.ensures)
+    joins_lines c.args.gathered.now (Failed c.in-Err.fault) c.add_fault.new.gathered c.add_fault.ensures c.args.self.now lines (record { at = c.args.at; text = text } ∷ []) before (gathered_syntax c.args.self.now c.args.at text c.in-Err.fault c.in-Err.ensures)
 
 pub add_lent-requires-clause-feature_in_range : goal.add_lent-requires-clause-feature_in_range
 add_lent-requires-clause-feature_in_range c =
@@ -41,7 +42,7 @@ returns-in-Ok-read_line-clause-fold c =
     IfOk-weaker c.add_lent.result _ _ (λ u adds. adds_feature c.args.self.now text read c.args.gathered.now c.add_lent.new.gathered is (subst Q c.self.view_is adds)) c.add_lent.ensures
 
 pub returns-clause-own : goal.returns-clause-own
-returns-clause-own c = IfOk-weaker c.add_end.result _ _ (λ u (fault, e, owns, joins). owns c.args.self.now c.requires.own tt) c.add_end.ensures
+returns-clause-own c = IfOk-weaker c.add_end.result _ _ (λ u (fault, e, joins). joins_own c.args.gathered.now (Failed fault) c.add_end.new.gathered joins c.args.self.now c.requires.own tt) c.add_end.ensures
 
 pub returns-clause-fold : goal.returns-clause-fold
 returns-clause-fold c =
@@ -51,4 +52,4 @@ returns-clause-fold c =
     let P : LineFault → Type 0 = λ z. IfFound z (λ fault. IsGathered c.args.self.now (Failed fault) (text ∷ [])) in
     let found : P end = found_weaker end (HasFirstLineFault c.args.self.now.digits c.args.self.now.how line.at (take line.len line.ahead.now)) (λ fault. IsGathered c.args.self.now (Failed fault) (text ∷ []))
     (λ fault h. read_fault c.args.self.now c.args.ahead.now c.args.len c.args.at line c.in-Ok.ensures fault h) (subst Q c.self.view_is c.in-Err-read_line.ensures) in
-    IfOk-weaker c.add_end.result _ _ (λ u (fault, e, owns, joins) lines before. joins c.args.self.now lines (text ∷ []) before (subst P e found)) c.add_end.ensures
+    IfOk-weaker c.add_end.result _ _ (λ u (fault, e, joins) lines before. joins_lines c.args.gathered.now (Failed fault) c.add_end.new.gathered joins c.args.self.now lines (text ∷ []) before (subst P e found)) c.add_end.ensures

@@ -3,7 +3,7 @@ use Rattle.std.proofs.Math.Seq.{take-length}
 use Rattle.std.proofs.lemmas.Result.{err_from_is_err_and}
 use Rattle.at_query.specs.declared.query.queries.Test.{Test}
 use Rattle.at_wkt.specs.Answers.{IfFound, HasLineShape, HasFirstLineFault}
-use Rattle.at_run.specs.declared.gathered.Gathered.TheVariants.{Failed}
+use Rattle.at_query.specs.declared.answer.gathered.Gathered.TheVariants.{Failed}
 use Rattle.at_run.specs.Gathering.{Asked, IsGathered}
 use Rattle.at_run.specs.Labelling.{AreFrontTexts}
 use Rattle.at_run.proofs.LineParts.{read_shape, read_fault, gathered_syntax, found_weaker}
