@@ -362,7 +362,8 @@ def tell_style(name, costs, unit, has_goal):
 def measure_style(name, atgis, simdjson, words):
     """Measures one style; whether it meets its goals."""
     size = words.size or (SMALL if words.instructions else SIZE)
-    blocks = max(BLOCKS * size // SIZE, 1)
+    # a power of two, since the program takes the next one
+    blocks = 1 << max((BLOCKS * size // SIZE).bit_length() - 1, 0)
     data, cost = file_of(name, size), counts if words.instructions else times
     unit = "instructions" if words.instructions else "processor time"
     if name == "sequence":
