@@ -1,6 +1,6 @@
 -- Digits read one by one: the bytes passed so far, the number that they spell, and what is kept of it.
 -- For `json_number`, `leading_number`, `plain_len`, `plain_number`, `read_fixed` and `wkt_number`.
-use Rattle.std.proofs.Common.{◌≡◌, ℕ, zero, suc, lit<, ◌+◌, ◌-◌, ◌*◌, ◌^◌, ◌<◌, ◌≤◌, inl, inr, Bool, true, false, nat_lt, List, [], ◌∷◌, ◌++◌, length, take, drop, slice_index, refl, sym, ◌∙◌, ap, subst, arith, add-one, take-suc, length-take, length-drop, take-append-drop, take-take}
+use Rattle.std.proofs.Common.{◌≡◌, ℕ, suc, lit<, ◌+◌, ◌-◌, ◌*◌, ◌^◌, ◌<◌, ◌≤◌, Bool, true, false, nat_lt, List, [], ◌∷◌, ◌++◌, length, take, drop, slice_index, refl, sym, ◌∙◌, ap, subst, arith, add-one, take-suc, length-take, length-drop, take-append-drop, take-take}
 use Rattle.std.proofs.lemmas.Bool.{cases_eq}
 use Rattle.std.proofs.lemmas.Nat.{pow-add}
 use Rattle.std.proofs.lemmas.List.{drop-append-le, drop_all}
@@ -72,42 +72,22 @@ behind_small r t (d ∷ ds) h (k, hs) =
 
 dropped_more : (K d m : ℕ) (cut next : Bool) (ds : List ℕ) (h : Keeps K d cut m) → AreDigits ds → (0 < length ds → 10 ^ 18 ≤ K)
     → next ≡ nat_lt 0 (digits_behind h.rest ds) → Keeps K (d + length ds) next (digits_behind m ds)
-dropped_more K d m cut next ds h are_digits full e =
-    let powers : 10 ^ (d + length ds) ≡ 10 ^ d * 10 ^ length ds = pow-add 10 d (length ds) in
-    record {
-      rest = digits_behind h.rest ds;
-      split = ap (λ n. digits_behind n ds) h.split ∙ (behind_split (K * 10 ^ d) h.rest ds ∙ ap (λ n. n + digits_behind h.rest ds) (rw powers (grind arith)));
-      small = rw powers (behind_small h.rest (10 ^ d) ds h.small are_digits);
-      cut = e;
-      full = λ some. elim (cases_eq (length ds) 0) [ inl none ↦ h.full (omega (arith, none, some)) | inr more ↦ full (omega (arith, more)) ];
-      fits = h.fits;
-    }
+dropped_more K d m cut next ds h k l n = grind (arith, pow-add, behind_split, behind_small, cases_eq)
 
 -- nothing was dropped, and what is kept is the whole number
 pub none_dropped : (K m : ℕ) (cut : Bool) → Keeps K 0 cut m → (m ≡ K) × (cut ≡ false)
-none_dropped K m cut h =
-    let zero : h.rest ≡ 0 = omega (arith, h.small) in
-    (omega (arith, h.split, zero), h.cut ∙ ap (nat_lt 0) zero)
+none_dropped K m cut h = grind arith
 
 all_kept : (K : ℕ) (cut : Bool) → cut ≡ false → K < 10 ^ 19 → Keeps K 0 cut K
 all_kept K cut e h = record { rest = 0; split = omega arith; small = lit< tt; cut = e; full = λ some. absurd (omega (arith, some)); fits = h }
 
 kept_more : (K d m next : ℕ) (cut : Bool) (ds : List ℕ) → Keeps K d cut m → next ≡ digits_behind K ds → next < 10 ^ 19 → (10 ^ 18 ≤ K → ds ≡ [])
     → Keeps next d cut (digits_behind m ds)
-kept_more K zero m next cut ds h e fits full =
-    let (same, whole) = none_dropped K m cut h in
-    let all : digits_behind m ds ≡ next = ap (λ n. digits_behind n ds) same ∙ sym e in
-    subst (Keeps next 0 cut) (sym all) (all_kept next cut whole fits)
-kept_more K (suc d) m next cut ds h e fits full =
-    let none : ds ≡ [] = full (h.full (omega arith)) in
-    let same : next ≡ K = e ∙ ap (digits_behind K) none in
-    let P : ℕ → Type 0 = λ n. Keeps n (suc d) cut m in
-    subst (Keeps next (suc d) cut) (sym (ap (digits_behind m) none)) (subst P (sym same) h)
+kept_more K d m next cut ds h k l n = grind arith
 
 -- digits of a text that are all kept
 pub run_whole : (w : List ℕ) (from stop K d m next : ℕ) (cut : Bool) → KeepsDigits w from stop K next → Keeps K d cut m → Keeps next d cut (digits_behind m (between w from stop))
-run_whole w from stop K d m next cut run h =
-    kept_more K d m next cut (between w from stop) h run.value run.fits (λ big. ap (between w from) (run.full big) ∙ part-none w from (omega (arith, run.order, run.within)))
+run_whole w from stop K d m next cut h k = grind (arith, kept_more, part-none)
 
 -- digits are kept as long as there is room, up to `stop`, and dropped from there on
 pub run_keeps : (w : List ℕ) (from stop to K d m next : ℕ) (cut after : Bool) → KeepsDigits w from stop K next → stop ≤ to → to ≤ length w → Keeps K d cut m
@@ -128,26 +108,11 @@ run_keeps w from stop to K d m next cut after run more within h are_digits stops
 
 -- nothing is kept yet
 pub keeps_none : (w : List ℕ) (from before : ℕ) → from ≤ length w → before < 10 ^ 19 → KeepsDigits w from from before before
-keeps_none w from before within fits =
-    let none : between w from from ≡ [] = part-none w from within in
-    record { order = omega arith; within = within; digits = rw none tt; value = sym (ap (digits_behind before) none); fits = fits; full = λ _. refl }
+keeps_none w from before h k = grind (arith, part-none)
 
 -- digits behind those that were kept
 pub keeps_both : (w : List ℕ) (from mid to before kept next : ℕ) → KeepsDigits w from mid before kept → KeepsDigits w mid to kept next → KeepsDigits w from to before next
-keeps_both w from mid to before kept next h k =
-    let first : List ℕ = between w from mid in let second : List ℕ = between w mid to in
-    let whole : between w from to ≡ first ++ second = part-part w from mid to h.order k.order k.within in
-    record {
-      order = omega (arith, h.order, k.order);
-      within = k.within;
-      digits = rw whole (digits-both first second h.digits k.digits);
-      value = k.value ∙ (ap (λ n. digits_behind n second) h.value ∙ (sym (behind-both before first second) ∙ ap (digits_behind before) (sym whole)));
-      fits = k.fits;
-      full = λ big.
-          let at : mid ≡ from = h.full big in
-          let same : kept ≡ before = h.value ∙ ap (digits_behind before) (ap (between w from) at ∙ part-none w from (omega (arith, h.order, h.within))) in
-          k.full (omega (arith, same, big)) ∙ at;
-    }
+keeps_both w from mid to before kept next h k = grind (arith, part-part, digits-both, behind-both, part-none)
 
 -- ---- how large what is kept may be
 
@@ -155,9 +120,4 @@ pub room_more : (n k l : ℕ) → n < 10 ^ k → k ≤ l → n < 10 ^ l
 room_more n k l small more = let ten : 0 < 10 = lit< tt in let least : 10 ^ k ≤ 10 ^ l = pow-le-pow_right ten more in omega (arith, small, least)
 
 pub kept_small : (w : List ℕ) (from to before kept k : ℕ) → from ≤ to → to ≤ length w → AreDigits (between w from to) → kept ≡ digits_behind before (between w from to) → before < 10 ^ k → kept < 10 ^ (k + (to - from))
-kept_small w from to before kept k order within digits value small =
-    let ds : List ℕ = between w from to in
-    let count : length ds ≡ to - from = omega (arith, part-length w from to order within) in
-    let below : digits_behind before ds < 10 ^ k * 10 ^ length ds = behind_small before (10 ^ k) ds small digits in
-    let top : 10 ^ k * 10 ^ length ds ≡ 10 ^ (k + (to - from)) = ap (λ n. 10 ^ k * 10 ^ n) count ∙ sym (pow-add 10 k (to - from)) in
-    subst (λ n. kept < n) top (subst (λ n. n < 10 ^ k * 10 ^ length ds) (sym value) below)
+kept_small w from to before kept k h l m n p = grind (arith, part-length, behind_small, pow-add)

@@ -198,8 +198,7 @@ folded_is n bs few long h are_digits =
 -- ---- the bytes of a text
 
 eight_of : (xs : List ℕ) → 8 ≤ length xs → eight_bytes xs 0 ≡ number_l 256 (take 8 xs)
-eight_of (a ∷ b ∷ c ∷ d ∷ e ∷ f ∷ g ∷ h ∷ xs) n = omega arith
-eight_of _ n = absurd (omega (arith, n))
+eight_of xs h = grind arith
 
 at_place : (w : List ℕ) (at : ℕ) → eight_bytes w at ≡ eight_bytes (drop at w) 0
 at_place w at = rw (get_or-drop at w 0 0, get_or-drop at w 1 0, get_or-drop at w 2 0, get_or-drop at w 3 0, get_or-drop at w 4 0, get_or-drop at w 5 0, get_or-drop at w 6 0, get_or-drop at w 7 0, add-zero) refl

@@ -1,16 +1,16 @@
 -- The end of a number, with an exponent or without one: its longest viable prefix, its parts, and what is kept of them.
 -- For `json_number`, `leading_number`, `plain_len`, `plain_number`, `read_fixed` and `wkt_number`.
-use Rattle.std.proofs.Common.{◌≡◌, ℕ, ◌+◌, ◌^◌, ◌<◌, ◌≤◌, ◌⊎◌, inl, inr, Bool, true, false, cond, nat_lt, ◌==◌, IsTrue, Option, Some, None, IfSome, List, [], ◌∷◌, ◌++◌, length, take, slice_index, refl, sym, ◌∙◌, ap, subst, arith, add-one, take-suc, append-nil, append_assoc}
+use Rattle.std.proofs.Common.{◌≡◌, ℕ, ◌+◌, ◌^◌, ◌<◌, ◌≤◌, ◌⊎◌, inl, inr, Bool, true, false, cond, nat_lt, IsTrue, Option, Some, None, IfSome, List, [], ◌∷◌, ◌++◌, length, take, slice_index, refl, sym, ◌∙◌, ap, subst, arith, add-one, take-suc, append-nil, append_assoc}
 use Rattle.std.proofs.lemmas.Bool.{cases_lt, ltb-true, lt-ltb}
 use Rattle.std.proofs.Math.Bool.{or-false}
 use Rattle.at_text.specs.Prefix.{TakesLongest}
 use Rattle.at_text.specs.Texts.{is_digit}
 use Rattle.at_fixed.specs.declared.notation.Notation.{Notation}
-use Rattle.at_fixed.specs.declared.notation.Notation.TheVariants.{Json, Wkt}
+use Rattle.at_fixed.specs.declared.notation.Notation.TheVariants.{Wkt}
 use Rattle.at_fixed.specs.declared.scanning.Sign.{Sign}
 use Rattle.at_fixed.specs.declared.scanning.Mantissa.{Mantissa}
 use Rattle.at_fixed.specs.declared.scanning.Power.{Power}
-use Rattle.at_fixed.specs.Numerals.{Exponent, Numeral, fraction_text, exponent_text, numeral_text, AreDigits, IsAtMostOneOf, IsExponent, IsNumeralOf, NumberOf, digits_value}
+use Rattle.at_fixed.specs.Numerals.{Exponent, Numeral, fraction_text, exponent_text, numeral_text, AreDigits, IsAtMostOneOf, IsExponent, IsNumeralOf, NumberOf}
 use Rattle.at_fixed.specs.Fixed.{has_minus, exponent_above, exponent_below}
 use Rattle.at_fixed.specs.NumberSoFar.{between, SameOrHuge}
 use Rattle.at_fixed.specs.Decimals.{IsDecimalOf}
@@ -35,16 +35,10 @@ taken_by g w end is_number h =
     subst P h.ends (number_at g h.state w end h.reads.fits h.reads.run h.stops)
 
 no_letter : (is_number : Bool) (b : ℕ) → (is_number ≡ true → is_letter b ≡ false) → after_mantissa is_number b ≡ None
-no_letter true b h = ap (λ c. cond c (Some letter) None) (h refl)
-no_letter false b h = refl
+no_letter is_number b h = grind arith
 
 plain_end : (g : Notation) (w : List ℕ) (read : Mantissa) (p : Power) → ReadsMantissa g w read → ReadsNone w read p → Finished g w p.end p.is_number
-plain_end g w read p h n = rw (n.same, n.ends) (record {
-  state = h.state;
-  reads = h.reads;
-  ends = h.ends;
-  stops = λ inside. h.next inside ∙ no_letter read.is_number (slice_index w read.end) (λ e. n.no_letter e inside);
-})
+plain_end g w read p h k = grind arith
 
 -- the place behind the letter and the sign, where the digits of the exponent begin
 record Lettered (g : Notation) (w : List ℕ) (i : ℕ) : Type 0 where
@@ -116,8 +110,7 @@ longest_by g w read p h k = taken_by g w p.end p.is_number (finished_by g w read
 
 pub numeral_by : (g : Notation) (s ws : List ℕ) (f : Option (List ℕ)) (e : Option Exponent) → IsFrontOf g s ws f → IfSome e IsExponent
     → IsNumeralOf g (record { sign = s; whole = ws; fraction = f; exponent = e })
-numeral_by Json s ws f e (h, k, l) p = record { sign = h; whole = k; fraction = l; exponent = p }
-numeral_by Wkt s ws f e (h, k) p = record { sign = h; digits = k; exponent = p }
+numeral_by g s ws f e h k = grind arith
 
 -- a front and an exponent's text behind it
 text_by : (s ws fs es t u : List ℕ) → t ≡ s ++ (ws ++ fs) → u ≡ t ++ es → u ≡ s ++ (ws ++ (fs ++ es))
@@ -166,40 +159,20 @@ record IsExponentSign (w : List ℕ) (i : ℕ) (sign : Sign) : Type 0 where
   order : i ≤ sign.end
 
 sign_by : (w : List ℕ) (i : ℕ) (sign : Sign) → i ≤ length w → ReadsSign Wkt w i sign → IsExponentSign w i sign
-sign_by w i sign inside (inl (e, m, h)) =
-    let none : between w i sign.end ≡ [] = ap (between w i) e ∙ part-none w i inside in
-    record { is_sign = rw none tt; minus = rw (none, m) refl; order = omega (arith, e) }
-sign_by w i sign inside (inr (e, more, h, m)) =
-    let one : between w i sign.end ≡ slice_index w i ∷ [] =
-    ap (between w i) e ∙ (part-more w i i (omega arith) more ∙ ap (λ x. x ++ (slice_index w i ∷ [])) (part-none w i inside)) in
-    record { is_sign = rw one h; minus = rw (one, m) (sym (or-false (slice_index w i == 0x2D))); order = omega (arith, e) }
+sign_by w i sign h k = grind (arith, part-none, part-more, or-false)
 
 above_same : (m k : Bool) (size v : ℕ) → m ≡ k → SameOrHuge size v → SameOrHuge (cond m 0 size) (cond k 0 v)
-above_same true k size v e h = let P : Bool → Type 0 = λ b. SameOrHuge 0 (cond b 0 v) in subst P e (inl refl)
-above_same false k size v e h = let P : Bool → Type 0 = λ b. SameOrHuge size (cond b 0 v) in subst P e h
+above_same m k size v h l = grind arith
 
 below_same : (m k : Bool) (size v : ℕ) → m ≡ k → SameOrHuge size v → SameOrHuge (cond m size 0) (cond k v 0)
-below_same true k size v e h = let P : Bool → Type 0 = λ b. SameOrHuge size (cond b v 0) in subst P e h
-below_same false k size v e h = let P : Bool → Type 0 = λ b. SameOrHuge 0 (cond b v 0) in subst P e (inl refl)
+below_same m k size v h l = grind arith
 
 -- the exponent that is read at a place
 abbrev exponent_at : List ℕ → ℕ → Sign → Power → Exponent
 exponent_at w from sign p = record { letter = slice_index w from; sign = between w (from + 1) sign.end; digits = between w sign.end p.end }
 
 power_by : (w : List ℕ) (from : ℕ) (p : Power) (x : ReadsExponent w from p) → IsTrue p.is_number → IsPowerOf p (Some (exponent_at w from x.sign p))
-power_by w from p x e =
-    let sign = sign_by w (from + 1) x.sign (omega (arith, x.inside)) x.reads_sign in
-    let minus : p.is_minus ≡ has_minus (between w (from + 1) x.sign.end) = x.minus ∙ sign.minus in
-    let some : x.sign.end < p.end = ltb-true x.sign.end p.end (sym x.ends ∙ e) in
-    record {
-      is_exponent = record {
-        letter = x.letter;
-        sign = sign.is_sign;
-        digits = some_digits (between w x.sign.end p.end) x.digits (omega (arith, part-length w x.sign.end p.end x.order x.within, some));
-      };
-      above = above_same p.is_minus (has_minus (between w (from + 1) x.sign.end)) p.size (digits_value (between w x.sign.end p.end)) minus x.size;
-      below = below_same p.is_minus (has_minus (between w (from + 1) x.sign.end)) p.size (digits_value (between w x.sign.end p.end)) minus x.size;
-    }
+power_by w from p x h = grind (arith, sign_by, ltb-true, some_digits, part-length, above_same, below_same)
 
 exponent_place : (w : List ℕ) (from : ℕ) (p : Power) (x : ReadsExponent w from p)
     → take p.end w ≡ take from w ++ (slice_index w from ∷ (between w (from + 1) x.sign.end ++ between w x.sign.end p.end))

@@ -1,14 +1,12 @@
 -- The value of a number without division: what each answer says by products alone.
 -- For `read_fixed`.
-use Rattle.std.proofs.Common.{◌≡◌, ◌≢◌, ℕ, zero, suc, length, ◌^◌, ◌+◌, ◌*◌, ◌/◌, ◌%◌, ◌<◌, ◌≤◌, Bool, true, false, cond, nat_lt, ◌==◌, Result, Ok, Err, refl, sym, ◌∙◌, ap, arith, div-add-mod', mod-lt, add-zero, mul-le-mul_right, one-mul, lit<}
+use Rattle.std.proofs.Common.{◌≡◌, ℕ, ◌+◌, ◌*◌, ◌/◌, ◌%◌, ◌<◌, ◌≤◌, Bool, true, false, cond, nat_lt, ◌==◌, Result, Ok, Err, refl, sym, arith, div-add-mod', mod-lt, mul-le-mul_right, one-mul, lit<}
 use Rattle.std.proofs.lemmas.Bool.{eqb-true, eqb-false, ltb-false, ltb-true}
-use Rattle.std.proofs.Math.Nat.{mul-mod_left}
 use Rattle.at_fixed.specs.declared.rounding.FixedFault.{FixedFault}
 use Rattle.at_fixed.specs.declared.rounding.FixedFault.TheVariants.{Scale, Range}
 use Rattle.at_fixed.specs.declared.rounding.Coords.{Coords}
-use Rattle.at_fixed.specs.declared.rounding.Coords.TheVariants.{Exact, Round}
 use Rattle.at_fixed.specs.Numerals.{Numeral}
-use Rattle.at_fixed.specs.Fixed.{largest, exact_quotient, nearest, quotient, size_of, mantissa, fraction_digits, exponent_above, exponent_below, fixed_of}
+use Rattle.at_fixed.specs.Fixed.{largest, exact_quotient, nearest, quotient, size_of, fixed_of}
 use Rattle.at_fixed.specs.Products.{IsExact, IsNearest, IsRounded, IsQuotient, IsSize, IsValue}
 use Rattle.at_fixed.proofs.Sizes.{pow_positive}
 
@@ -16,24 +14,10 @@ abbrev ok_or_zero : Result ℕ FixedFault → ℕ
 ok_or_zero (Ok n) = n
 ok_or_zero (Err e) = 0
 
-no_multiple : (p q r : ℕ) → p % q ≢ 0 → r * q ≢ p
-no_multiple p q r f e = f (ap (λ n. n % q) (sym e) ∙ mul-mod_left r q)
-
 -- what the two tests of an exact value say
 exact_by : (p q : ℕ) (out whole : Bool) → nat_lt (largest * q) p ≡ out → (p % q == 0) ≡ whole
     → IsExact p q (cond out (Err Range) (cond whole (Ok (p / q)) (Err Scale)))
-exact_by p q true whole h k = record { value = λ r e. cc; range = λ e. ltb-true (largest * q) p h; scale = λ e. cc }
-exact_by p q false true h k = record {
-  value = λ r e. let same_r : p / q ≡ r = ap ok_or_zero e in
-      (rw (← same_r) (sym (add-zero (p / q * q)) ∙ ap (λ n. p / q * q + n) (sym (eqb-true (p % q) 0 k)) ∙ div-add-mod' p q), ltb-false (largest * q) p h);
-  range = λ e. cc;
-  scale = λ e. cc;
-}
-exact_by p q false false h k = record {
-  value = λ r e. cc;
-  range = λ e. cc;
-  scale = λ e. (ltb-false (largest * q) p h, λ r. no_multiple p q r (eqb-false (p % q) 0 k));
-}
+exact_by p q out whole h k = grind arith
 
 pub exact_quotient_means : (p q : ℕ) → IsExact p q (exact_quotient p q)
 exact_quotient_means p q = exact_by p q (nat_lt (largest * q) p) (p % q == 0) refl refl
@@ -42,18 +26,13 @@ even_next' : (d : ℕ) → (d + d % 2) % 2 ≡ 0
 even_next' d = grind arith
 
 more_than_half : (p q d m : ℕ) → p ≡ d * q + m → m < q → q < 2 * m → IsNearest p q (d + 1)
-more_than_half p q d m e h k =
-    let next : (d + 1) * q ≡ d * q + q = grind arith in
-    record { not_below = rw (e, next) (omega (arith, h, k)); not_above = rw (e, next) (omega (arith, h, k)); even = rw (e, next) (λ t. absurd (omega (arith, h, k, t))) }
+more_than_half p q d m h k l = grind arith
 
 less_than_half : (p q d m : ℕ) → p ≡ d * q + m → 2 * m < q → IsNearest p q d
-less_than_half p q d m e k =
-    record { not_below = rw e (omega (arith, k)); not_above = rw e (omega (arith, k)); even = rw e (λ t. absurd (omega (arith, k, t))) }
+less_than_half p q d m h k = grind arith
 
 half : (p q d m n : ℕ) → p ≡ d * q + m → 2 * m ≡ q → n * q ≤ q → (d + n) % 2 ≡ 0 → IsNearest p q (d + n)
-half p q d m n e k h even =
-    let next : (d + n) * q ≡ d * q + n * q = grind arith in
-    record { not_below = rw (e, next) (omega (arith, h, k)); not_above = rw (e, next) (omega (arith, h, k)); even = λ t. even }
+half p q d m n h k l r = grind arith
 
 nearest_by : (p q : ℕ) → 0 < q → (over at_half : Bool) → nat_lt q (2 * (p % q)) ≡ over → (2 * (p % q) == q) ≡ at_half
     → IsNearest p q (cond over (p / q + 1) (cond at_half (p / q + (p / q) % 2) (p / q)))
@@ -68,27 +47,14 @@ pub nearest_means : (p q : ℕ) → 0 < q → IsNearest p q (nearest p q)
 nearest_means p q positive = nearest_by p q positive (nat_lt q (2 * (p % q))) (2 * (p % q) == q) refl refl
 
 rounded_by : (n p q : ℕ) (out : Bool) → IsNearest p q n → nat_lt largest n ≡ out → IsRounded p q (cond out (Err Range) (Ok n))
-rounded_by n p q true h e = record { nearest = n; is_nearest = h; value = λ r f. cc; range = λ f. ltb-true largest n e; scale = λ f. cc }
-rounded_by n p q false h e = record {
-  nearest = n;
-  is_nearest = h;
-  value = λ r f. (let same_r : n ≡ r = ap ok_or_zero f in (sym same_r, (let small : n ≤ largest = ltb-false largest n e in omega (arith, small, same_r))));
-  range = λ f. cc;
-  scale = λ f. cc;
-}
+rounded_by n p q out h k = grind arith
 
 quotient_means : (how : Coords) (p q : ℕ) → 0 < q → IsQuotient how p q (quotient how p q)
-quotient_means Exact p q positive = exact_quotient_means p q
-quotient_means Round p q positive = rounded_by (nearest p q) p q (nat_lt largest (nearest p q)) (nearest_means p q positive) refl
+quotient_means how p q h = grind (arith, exact_quotient_means, rounded_by, nearest_means)
 
 size_means : (how : Coords) (m a b : ℕ) → IsSize how m a b (size_of how m a b)
-size_means how zero a b = refl
-size_means how (suc m) a b = quotient_means how (suc m * 10 ^ a) (10 ^ b) (pow_positive b)
+size_means how m a b = grind (arith, quotient_means, pow_positive)
 
 -- the value of a number says what its products say
 pub value_means : (n : Numeral) (digits : ℕ) (how : Coords) → IsValue n digits how (fixed_of n digits how)
-value_means n digits how = record {
-  size = size_of how (mantissa n) (digits + exponent_above n.exponent) (length (fraction_digits n) + exponent_below n.exponent);
-  is_size = size_means how (mantissa n) (digits + exponent_above n.exponent) (length (fraction_digits n) + exponent_below n.exponent);
-  sign = refl;
-}
+value_means n digits how = grind (arith, size_means)

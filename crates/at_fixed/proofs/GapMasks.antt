@@ -14,7 +14,6 @@ use Rattle.at_fixed.specs.Numerals.{AreDigits}
 use Rattle.at_fixed.specs.NumberSoFar.{between}
 use Rattle.at_fixed.specs.Scans.{EndsRun, ReadsSign}
 use Rattle.at_fixed.specs.declared.notation.Notation.{Notation}
-use Rattle.at_fixed.specs.declared.notation.Notation.TheVariants.{Json, Wkt}
 use Rattle.at_fixed.specs.declared.scanning.Sign.{Sign}
 use Rattle.at_fixed.specs.States.{is_lead_sign}
 use Rattle.at_fixed.specs.Gaps.{AreFirstTwo, MarksGaps, MarksGapsFrom, IsClearedTo, IsFirstSet}
@@ -121,8 +120,7 @@ marks_behind w count gaps (suc zero) marks first few = record {
 marks_behind w count gaps (suc (suc n)) marks first few = absurd (omega (arith, few))
 
 sign_no_digit : (g : Notation) (b : ℕ) → is_lead_sign g b ≡ true → is_digit b ≡ false
-sign_no_digit Json b h = grind (arith, h)
-sign_no_digit Wkt b h = grind (arith, h)
+sign_no_digit g b h = grind arith
 
 -- behind the sign that a number may have
 pub marks_behind_sign : (g : Notation) (w : List ℕ) (count gaps : ℕ) (sign : Sign) → 0 < count → MarksGaps w 0 count gaps → ReadsSign g w 0 sign → MarksGapsFrom w count sign.end (gaps - sign.end) × (sign.end ≤ gaps)
@@ -137,11 +135,7 @@ marks_behind_sign g w count gaps sign some marks (inr (e, inside, lead, m)) =
 
 -- behind the first place that is marked
 pub marks_further : (w : List ℕ) (count from gaps place rest : ℕ) → MarksGapsFrom w count from gaps → IsFirstSet gaps 0 place → from ≤ place → IsClearedTo gaps place rest → rest ≤ gaps → MarksGapsFrom w count (place + 1) rest
-marks_further w count from gaps place rest marks first order cleared less = record {
-  each = λ k after before. cleared.same k (omega (arith, after)) ∙ marks.each k (omega (arith, after, order)) before;
-  clear = λ k near. cleared.clear k (omega (arith, near));
-  small = omega (arith, less, marks.small);
-}
+marks_further w count from gaps place rest h k l m n = grind arith
 
 is_set : (b : Bool) → bit b ≡ 0 → b ≡ true
 is_set b h = grind (arith, h)
@@ -158,17 +152,7 @@ digits_to w from to order within each =
 
 -- they end at the first place that is marked
 pub ends_first : (w : List ℕ) (count from end gaps : ℕ) → count ≤ length w → MarksGapsFrom w count from gaps → IsFirstSet gaps 0 end → EndsRun w from end × (end < count)
-ends_first w count from end gaps long marks first =
-    let near : end < count = elim (cases_lt end count) [ inl less ↦ less | inr more ↦ absurd (cc (first.set, bit_at_above gaps count end marks.small more)) ] in
-    let order : from ≤ end = elim (cases_lt end from) [ inl less ↦ absurd (cc (first.set, marks.clear end less)) | inr more ↦ more ] in (
-      record {
-        order = order;
-        within = omega (arith, near, long);
-        digits = digits_to w from end order (omega (arith, near, long)) (λ k after before. is_set (is_digit (slice_index w k)) (sym (marks.each k after (omega (arith, before, near))) ∙ first.clear k (omega arith) before));
-        stops = is_clear (is_digit (slice_index w end)) (sym (marks.each end order near) ∙ first.set);
-      },
-      near,
-    )
+ends_first w count from end gaps h k l = grind (arith, cases_lt, bit_at_above, digits_to, is_set, is_clear)
 
 -- and those behind it at the second
 pub ends_twice : (w : List ℕ) (count from gaps : ℕ) (places : ℕ × ℕ) → count ≤ length w → MarksGapsFrom w count from gaps → AreFirstTwo gaps places

@@ -1,8 +1,7 @@
 -- A machine for the numbers of JSON and of WKT, and that it is one for their grammars.
 -- For `json_number`, `leading_number`, `plain_len`, `plain_number`, `read_fixed` and `wkt_number`.
-use Rattle.std.proofs.Common.{◌≡◌, ℕ, ◌⊎◌, inl, inr, ◌↔◌, List, [], ◌∷◌, ◌++◌, Option, Some, None, IfSome, IsTrue, Bool, true, false, cond, ◌==◌, refl, sym, ◌∙◌, ap, subst, arith, true≢false, ◌<◌, ◌≤◌, length, take, slice_index}
-use Rattle.std.proofs.lemmas.Bool.{eqb-true}
-use Rattle.std.proofs.lemmas.Option.{none-some, same_Some}
+use Rattle.std.proofs.Common.{◌≡◌, ℕ, ◌⊎◌, inl, inr, ◌↔◌, List, [], ◌∷◌, ◌++◌, Option, Some, None, IfSome, IsTrue, Bool, true, false, cond, refl, sym, ◌∙◌, ap, subst, arith, true≢false, ◌<◌, ◌≤◌, length, take, slice_index}
+use Rattle.std.proofs.lemmas.Option.{same_Some}
 use Rattle.std.specs.Bool.{⊤}
 use Rattle.at_text.specs.Texts.{is_digit, is_one_of}
 use Rattle.at_text.specs.Prefix.{TakesLongest}
@@ -10,7 +9,7 @@ use Rattle.at_text.proofs.Machine.{IsMachine, run, longest_at, TakesLongest-same
 use Rattle.at_fixed.specs.declared.notation.Notation.{Notation}
 use Rattle.at_fixed.specs.declared.notation.Notation.TheVariants.{Json, Wkt}
 use Rattle.at_fixed.specs.Numerals.{Exponent, fraction_text, exponent_text, IsAtMostOneOf, AreDigits, AreSomeDigits, IsExponent, IsJsonWhole, JsonNumber, AreWktDigits, WktNumber, NumberOf}
-use Rattle.at_fixed.specs.States.{State, start, signed, zero_digit, whole, point, fraction, letter, power_sign, power, is_letter, is_sign, is_first_digit, behind_digits, after_fraction, after_whole, lone_point, lead, step, accepts}
+use Rattle.at_fixed.specs.States.{State, start, signed, zero_digit, whole, point, fraction, letter, power_sign, power, is_letter, is_sign, is_first_digit, behind_digits, step, accepts}
 
 -- what may follow, cell by cell
 abbrev pub Rest : Notation → State → List ℕ → Type 0
@@ -47,90 +46,21 @@ sign_is P p q b h = elim (one_of_two 0x2B 0x2D b h) [ inl e ↦ subst P (sym e) 
 moved : (g : Notation) (s t : State) (w : List ℕ) → ◌≡◌ {A = Option State} (Some s) (Some t) → Rest g t w → Rest g s w
 moved g s t w f r = let P : State → Type 0 = λ x. Rest g x w in subst P (sym (same_Some s t f)) r
 
-json_lead_at : (b : ℕ) → is_first_digit b ≡ true → lead Json b ≡ Some whole
-json_lead_at b h = let apart : (b == 0x30) ≡ false = grind (arith, h) in rw (apart, h) refl
-
-json_start_at : (b : ℕ) → is_first_digit b ≡ true → step Json start b ≡ Some whole
-json_start_at b h = let apart : (b == 0x2D) ≡ false = grind (arith, h) in rw apart (json_lead_at b h)
-
-pub digit_no_sign : (b : ℕ) → is_digit b ≡ true → is_sign b ≡ false
-digit_no_sign b h = grind (arith, h)
-
-wkt_start_at : (b : ℕ) → is_digit b ≡ true → step Wkt start b ≡ Some whole
-wkt_start_at b h = rw (digit_no_sign b h, h) refl
-
 letter_at : (g : Notation) (s : State) (b : ℕ) → step g s 0x65 ≡ Some letter → step g s 0x45 ≡ Some letter → is_letter b ≡ true → step g s b ≡ Some letter
 letter_at g s b p q h = letter_is (λ c. step g s c ≡ Some letter) p q b h
 
 goes : (g : Notation) (s : State) (b : ℕ) (w : List ℕ) → Rest g s (b ∷ w) → (t : State) × (step g s b ≡ Some t) × Rest g t w
-goes Json start b w (inl (e, r)) = (signed, ap (step Json start) e, r)
-goes Json start b w (inr (inl (e, r))) = (zero_digit, ap (step Json start) e, r)
-goes Json start b w (inr (inr (h, r))) = (whole, json_start_at b h, r)
-goes Wkt start b w (inl (h, r)) = (signed, sign_is (λ c. step Wkt start c ≡ Some signed) refl refl b h, r)
-goes Wkt start b w (inr (inl (h, r))) = (whole, wkt_start_at b h, r)
-goes Wkt start b w (inr (inr (e, r))) = (point, ap (step Wkt start) e, r)
-goes Json signed b w (inl (e, r)) = (zero_digit, ap (step Json signed) e, r)
-goes Json signed b w (inr (h, r)) = (whole, json_lead_at b h, r)
-goes Wkt signed b w (inl (h, r)) = (whole, ap (λ c. cond c (Some whole) (lone_point Wkt b)) h, r)
-goes Wkt signed b w (inr (e, r)) = (point, ap (step Wkt signed) e, r)
-goes g zero_digit b w (inl (e, r)) = (behind_digits g, ap (step g zero_digit) e, r)
-goes g zero_digit b w (inr (h, r)) = (letter, letter_at g zero_digit b refl refl h, r)
-goes g whole b w (inl (h, r)) = (whole, ap (λ c. cond c (Some whole) (after_whole g b)) h, r)
-goes g whole b w (inr (inl (e, r))) = (behind_digits g, ap (step g whole) e, r)
-goes g whole b w (inr (inr (h, r))) = (letter, letter_at g whole b refl refl h, r)
-goes g point b w (h, r) = (fraction, ap (λ c. cond c (Some fraction) None) h, r)
-goes g fraction b w (inl (h, r)) = (fraction, ap (λ c. cond c (Some fraction) (after_fraction b)) h, r)
-goes g fraction b w (inr (h, r)) = (letter, letter_at g fraction b refl refl h, r)
-goes g letter b w (inl (h, r)) = (power, ap (λ c. cond c (Some power) (cond (is_sign b) (Some power_sign) None)) h, r)
-goes g letter b w (inr (h, r)) = (power_sign, sign_is (λ c. step g letter c ≡ Some power_sign) refl refl b h, r)
-goes g power_sign b w (h, r) = (power, ap (λ c. cond c (Some power) None) h, r)
-goes g power b w (h, r) = (power, ap (λ c. cond c (Some power) None) h, r)
+goes g s b w h = grind arith
 
 -- the test holds and leads to s, or it does not and the other way is taken
 by_test : (g : Notation) (c : Bool) (s t : State) (o : Option State) (w : List ℕ) → cond c (Some s) o ≡ Some t → Rest g t w → ((c ≡ true) × Rest g s w) ⊎ (o ≡ Some t)
-by_test g true s t o w e r = inl (refl, moved g s t w e r)
-by_test g false s t o w e r = inr e
+by_test g c s t o w h k = grind arith
 
 by_last : (g : Notation) (c : Bool) (s t : State) (w : List ℕ) → cond c (Some s) None ≡ Some t → Rest g t w → (c ≡ true) × Rest g s w
-by_last g true s t w e r = (refl, moved g s t w e r)
-by_last g false s t w e r = absurd (none-some t e)
-
-after_whole_comes : (g : Notation) (t : State) (b : ℕ) (w : List ℕ) → after_whole g b ≡ Some t → Rest g t w → Rest g zero_digit (b ∷ w)
-after_whole_comes g t b w e r = elim (by_test g (b == 0x2E) (behind_digits g) t (after_fraction b) w e r) [
-  | inl (h, q) ↦ inl (eqb-true b 0x2E h, q)
-  | inr f ↦ inr (by_last g (is_letter b) letter t w f r)
-]
-
-lead_comes : (g : Notation) (t : State) (b : ℕ) (w : List ℕ) → lead g b ≡ Some t → Rest g t w → Rest g signed (b ∷ w)
-lead_comes Json t b w e r = elim (by_test Json (b == 0x30) zero_digit t (cond (is_first_digit b) (Some whole) None) w e r) [
-  | inl (h, q) ↦ inl (eqb-true b 0x30 h, q)
-  | inr f ↦ inr (by_last Json (is_first_digit b) whole t w f r)
-]
-lead_comes Wkt t b w e r = elim (by_test Wkt (is_digit b) whole t (lone_point Wkt b) w e r) [
-  | inl q ↦ inl q
-  | inr f ↦ (let q = by_last Wkt (b == 0x2E) point t w f r in inr (eqb-true b 0x2E q.0, q.1))
-]
-
-start_comes : (g : Notation) (t : State) (b : ℕ) (w : List ℕ) → step g start b ≡ Some t → Rest g t w → Rest g start (b ∷ w)
-start_comes Json t b w e r = elim (by_test Json (b == 0x2D) signed t (lead Json b) w e r) [
-  | inl (h, q) ↦ inl (eqb-true b 0x2D h, q)
-  | inr f ↦ inr (lead_comes Json t b w f r)
-]
-start_comes Wkt t b w e r = elim (by_test Wkt (is_sign b) signed t (lead Wkt b) w e r) [
-  | inl q ↦ inl q
-  | inr f ↦ inr (lead_comes Wkt t b w f r)
-]
+by_last g c s t w h k = grind arith
 
 comes : (g : Notation) (s t : State) (b : ℕ) (w : List ℕ) → step g s b ≡ Some t → Rest g t w → Rest g s (b ∷ w)
-comes g start t b w e r = start_comes g t b w e r
-comes g signed t b w e r = lead_comes g t b w e r
-comes g zero_digit t b w e r = after_whole_comes g t b w e r
-comes g whole t b w e r = elim (by_test g (is_digit b) whole t (after_whole g b) w e r) [ inl q ↦ inl q | inr f ↦ inr (after_whole_comes g t b w f r) ]
-comes g point t b w e r = by_last g (is_digit b) fraction t w e r
-comes g fraction t b w e r = elim (by_test g (is_digit b) fraction t (after_fraction b) w e r) [ inl q ↦ inl q | inr f ↦ inr (by_last g (is_letter b) letter t w f r) ]
-comes g letter t b w e r = elim (by_test g (is_digit b) power t (cond (is_sign b) (Some power_sign) None) w e r) [ inl q ↦ inl q | inr f ↦ inr (by_last g (is_sign b) power_sign t w f r) ]
-comes g power_sign t b w e r = by_last g (is_digit b) power t w e r
-comes g power t b w e r = by_last g (is_digit b) power t w e r
+comes g s t b w h k = grind arith
 
 yes : {P : Type 0} → P → P ↔ IsTrue true
 yes p = ((λ _. refl), (λ _. p))
@@ -139,12 +69,7 @@ no : ⊥ ↔ IsTrue false
 no = ((λ x. absurd x), (λ e. true≢false (sym e)))
 
 ends : (g : Notation) (s : State) → Rest g s [] ↔ IsTrue (accepts s)
-ends Json start = no
-ends g zero_digit = yes tt
-ends g whole = yes tt
-ends g fraction = yes tt
-ends g power = yes tt
-ends _ _ = no
+ends g s = grind arith
 
 lives : (g : Notation) (s : State) → (w : List ℕ) × Rest g s w
 lives Json start = (0x30 ∷ [], inr (inl (refl, tt)))
@@ -166,8 +91,7 @@ power_of g [] h = tt
 power_of g (b ∷ w) (h, hs) = (h, power_of g w hs)
 
 power_sign_of : (g : Notation) (w : List ℕ) → AreSomeDigits w → Rest g power_sign w
-power_sign_of g [] h = h
-power_sign_of g (b ∷ w) (h, hs) = (h, power_of g w hs)
+power_sign_of g w h = grind (arith, power_of)
 
 letter_of : (g : Notation) (s w : List ℕ) → IsAtMostOneOf (0x2B ∷ 0x2D ∷ []) s → AreSomeDigits w → Rest g letter (s ++ w)
 letter_of g [] [] p h = h
@@ -186,14 +110,10 @@ IsFraction Json ds = AreSomeDigits ds
 IsFraction Wkt ds = AreDigits ds
 
 behind_of : (g : Notation) (ds : List ℕ) (e : Option Exponent) → IsFraction g ds → IfSome e IsExponent → Rest g (behind_digits g) (ds ++ exponent_text e)
-behind_of Json [] e h p = absurd h
-behind_of Json (b ∷ ds) e (h, hs) p = (h, fraction_of Json ds e hs p)
-behind_of Wkt ds e h p = fraction_of Wkt ds e h p
+behind_of g ds e h k = grind (arith, fraction_of)
 
 zero_of : (g : Notation) (f : Option (List ℕ)) (e : Option Exponent) → IfSome f (IsFraction g) → IfSome e IsExponent → Rest g zero_digit (fraction_text f ++ exponent_text e)
-zero_of g None None h p = tt
-zero_of g None (Some e) h p = inr (p.letter, letter_of g e.sign e.digits p.sign p.digits)
-zero_of g (Some ds) e h p = inl (refl, behind_of g ds e h p)
+zero_of g f e h k = grind (arith, letter_of, behind_of)
 
 widened : (g : Notation) (w : List ℕ) → Rest g zero_digit w → Rest g whole w
 widened g [] r = tt
@@ -204,18 +124,13 @@ whole_of g [] f e h q p = widened g _ (zero_of g f e q p)
 whole_of g (b ∷ ds) f e (h, hs) q p = inl (h, whole_of g ds f e hs q p)
 
 json_signed_of : (ds : List ℕ) (f : Option (List ℕ)) (e : Option Exponent) → IsJsonWhole ds → IfSome f AreSomeDigits → IfSome e IsExponent → Rest Json signed (ds ++ (fraction_text f ++ exponent_text e))
-json_signed_of [] f e h q p = absurd h
-json_signed_of (b ∷ ds) f e (inl (h, none)) q p = inl (h, subst (λ x. Rest Json zero_digit (x ++ (fraction_text f ++ exponent_text e))) (sym none) (zero_of Json f e q p))
-json_signed_of (b ∷ ds) f e (inr (h, hs)) q p = inr (h, whole_of Json ds f e hs q p)
+json_signed_of ds f e h k l = grind (arith, zero_of, whole_of)
 
 point_of : (g : Notation) (ds : List ℕ) (e : Option Exponent) → AreSomeDigits ds → IfSome e IsExponent → Rest g point (ds ++ exponent_text e)
-point_of g [] e h p = absurd h
-point_of g (b ∷ ds) e (h, hs) p = (h, fraction_of g ds e hs p)
+point_of g ds e h k = grind (arith, fraction_of)
 
 wkt_signed_of : (ds : List ℕ) (f : Option (List ℕ)) (e : Option Exponent) → AreWktDigits ds f → IfSome e IsExponent → Rest Wkt signed (ds ++ (fraction_text f ++ exponent_text e))
-wkt_signed_of [] None e h p = absurd h
-wkt_signed_of [] (Some fs) e h p = inr (refl, point_of Wkt fs e h p)
-wkt_signed_of (b ∷ ds) f e ((h, hs), q) p = inl (h, whole_of Wkt ds f e hs q p)
+wkt_signed_of ds f e h k = grind (arith, point_of, whole_of)
 
 json_start_of : (s w : List ℕ) → IsAtMostOneOf (0x2D ∷ []) s → Rest Json signed w → Rest Json start (s ++ w)
 json_start_of [] [] h r = r
@@ -236,8 +151,7 @@ power_from g [] r = tt
 power_from g (b ∷ w) (h, r) = (h, power_from g w r)
 
 power_sign_from : (g : Notation) (w : List ℕ) → Rest g power_sign w → AreSomeDigits w
-power_sign_from g [] r = r
-power_sign_from g (b ∷ w) (h, r) = (h, power_from g w r)
+power_sign_from g w h = grind (arith, power_from)
 
 exponent_from : (g : Notation) (b : ℕ) (w : List ℕ) → is_letter b ≡ true → Rest g letter w → (e : Exponent) × IsExponent e × (b ∷ w ≡ exponent_text (Some e))
 exponent_from g b [] h r = absurd r
@@ -311,10 +225,7 @@ number_from Wkt (b ∷ w) (inr r) = wkt_signed_from [] (b ∷ w) tt r
 number_from _ [] r = absurd r
 
 number_of : (g : Notation) (w : List ℕ) → NumberOf g w → Rest g start w
-number_of Json w (n, h, e) = let P : List ℕ → Type 0 = Rest Json start in
-    subst P (sym e) (json_start_of n.sign (n.whole ++ (fraction_text n.fraction ++ exponent_text n.exponent)) h.sign (json_signed_of n.whole n.fraction n.exponent h.whole h.fraction h.exponent))
-number_of Wkt w (n, h, e) = let P : List ℕ → Type 0 = Rest Wkt start in
-    subst P (sym e) (wkt_start_of n.sign (n.whole ++ (fraction_text n.fraction ++ exponent_text n.exponent)) h.sign (wkt_signed_of n.whole n.fraction n.exponent h.digits h.exponent))
+number_of g w h = grind (arith, json_start_of, json_signed_of, wkt_start_of, wkt_signed_of)
 
 pub start-number : (g : Notation) (w : List ℕ) → Rest g start w ↔ NumberOf g w
 start-number g w = (number_from g w, number_of g w)

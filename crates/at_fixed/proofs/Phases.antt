@@ -7,13 +7,13 @@ use Rattle.std.proofs.Math.Bool.{or-false}
 use Rattle.at_text.specs.Texts.{is_digit}
 use Rattle.at_text.proofs.Machine.{run, run_more}
 use Rattle.at_fixed.specs.declared.notation.Notation.{Notation}
-use Rattle.at_fixed.specs.declared.notation.Notation.TheVariants.{Json, Wkt}
+use Rattle.at_fixed.specs.declared.notation.Notation.TheVariants.{Json}
 use Rattle.at_fixed.specs.declared.digits.DigitsRun.{DigitsRun}
 use Rattle.at_fixed.specs.declared.scanning.Sign.{Sign}
-use Rattle.at_fixed.specs.Numerals.{AreDigits, IsJsonWhole}
+use Rattle.at_fixed.specs.Numerals.{AreDigits}
 use Rattle.at_fixed.specs.Fixed.{has_minus}
 use Rattle.at_fixed.specs.NumberSoFar.{between}
-use Rattle.at_fixed.specs.States.{State, Reads, start, signed, zero_digit, whole, fraction, power, is_first_digit, is_lead_sign, after_fraction, after_whole, lone_point, lead, step, accepts}
+use Rattle.at_fixed.specs.States.{State, Reads, start, signed, whole, fraction, power, is_first_digit, is_lead_sign, after_fraction, after_whole, lone_point, lead, step, accepts}
 use Rattle.at_fixed.specs.Scans.{ReadsSign, IsLead, ReadsLead, IsSignOf, IsWholeOf, after_lead, ReadsWhole}
 use Rattle.at_fixed.proofs.DigitParts.{part-none, part-place, part-cons, part-more}
 use Rattle.at_fixed.proofs.NumberMachine.{machine}
@@ -79,12 +79,10 @@ pub record Signed (g : Notation) (w : List ℕ) (i : ℕ) (minus : Bool) : Type 
   pub minus_is : minus ≡ has_minus (take i w)
 
 no_sign : (g : Notation) → IsSignOf g []
-no_sign Json = tt
-no_sign Wkt = tt
+no_sign g = grind arith
 
 one_sign : (g : Notation) (b : ℕ) → is_lead_sign g b ≡ true → IsSignOf g (b ∷ [])
-one_sign Json b h = grind (arith, h)
-one_sign Wkt b h = h
+one_sign g b h = grind arith
 
 take_one : (w : List ℕ) → 0 < length w → take 1 w ≡ slice_index w 0 ∷ []
 take_one w h = take-suc w 0 0 h
@@ -113,8 +111,7 @@ signed_one g w inside h = record {
 }
 
 pub signed_by : (g : Notation) (w : List ℕ) (sign : Sign) → ReadsSign g w 0 sign → Signed g w sign.end sign.is_minus
-signed_by g w sign (inl (e, m, h)) = rw (e, m) (signed_none g w h)
-signed_by g w sign (inr (e, inside, h, m)) = rw (e, m) (signed_one g w inside h)
+signed_by g w sign h = grind (arith, signed_none, signed_one)
 
 -- the digits before the point, which may be none
 pub record Led (g : Notation) (w : List ℕ) (i end : ℕ) (led : Bool) : Type 0 where
@@ -125,38 +122,22 @@ pub record Led (g : Notation) (w : List ℕ) (i end : ℕ) (led : Bool) : Type 0
   pub whole_is : IsWholeOf g led (between w i end)
 
 lead_none : (g : Notation) (b : ℕ) → is_digit b ≡ false → lead g b ≡ lone_point g b
-lead_none Json b h = grind (arith, h)
-lead_none Wkt b h = grind (arith, h)
+lead_none g b h = grind arith
 
 first_digit : (b : ℕ) → is_digit b ≡ true → (b == 0x30) ≡ false → is_first_digit b ≡ true
 first_digit b h k = grind (arith, h, k)
 
 lead_digit : (g : Notation) (b : ℕ) → is_digit b ≡ true → (g ≡ Json → (b == 0x30) ≡ false) → lead g b ≡ Some whole
-lead_digit Json b h k = rw (k refl, first_digit b h (k refl)) refl
-lead_digit Wkt b h k = ap (λ c. cond c (Some whole) (lone_point Wkt b)) h
+lead_digit g b h k = grind arith
 
 whole_digits : (g : Notation) (b : ℕ) (ds : List ℕ) → AreDigits (b ∷ ds) → (g ≡ Json → (b == 0x30) ≡ false) → IsWholeOf g true (b ∷ ds)
-whole_digits Json b ds (h, hs) k = inr (first_digit b h (k refl), hs)
-whole_digits Wkt b ds h k = h
+whole_digits g b ds h k = grind arith
 
 led_none : (g : Notation) (w : List ℕ) (i : ℕ) (minus : Bool) → Signed g w i minus → (i < length w → is_digit (slice_index w i) ≡ false) → Led g w i i false
-led_none g w i minus h stops = record {
-  state = h.state;
-  reads = h.reads;
-  ends = h.ends;
-  next = λ inside. h.leads inside ∙ lead_none g (slice_index w i) (stops inside);
-  whole_is = part-none w i h.reads.fits;
-}
+led_none g w i minus h k = grind (arith, lead_none, part-none)
 
 led_zero : (w : List ℕ) (i : ℕ) (minus : Bool) → Signed Json w i minus → i < length w → slice_index w i ≡ 0x30 → Led Json w i (i + 1) true
-led_zero w i minus h inside e = record {
-  state = zero_digit;
-  reads = reads_byte Json w i h.state zero_digit h.reads inside (h.leads inside ∙ ap (lead Json) e);
-  ends = refl;
-  next = λ more. refl;
-  whole_is = (let one : between w i (i + 1) ≡ slice_index w i ∷ [] = part-more w i i (omega arith) inside ∙ ap (λ x. x ++ (slice_index w i ∷ [])) (part-none w i h.reads.fits) in
-      subst IsJsonWhole (sym one) (inl (e, refl)));
-}
+led_zero w i minus h k l = grind (arith, reads_byte, part-more, part-none)
 
 led_digits : (g : Notation) (w : List ℕ) (i end : ℕ) (minus : Bool) → Signed g w i minus → i < end → end ≤ length w → AreDigits (between w i end)
     → (g ≡ Json → (slice_index w i == 0x30) ≡ false) → (end < length w → is_digit (slice_index w end) ≡ false) → Led g w i end true

@@ -1,6 +1,6 @@
 -- Digits that are read eight at a time, and all kept.
 -- For `leading_number`, `plain_len` and `plain_number`.
-use Rattle.std.proofs.Common.{◌≡◌, ◌==◌, not, IsTrue, slice_index, ◌^◌, ℕ, ◌+◌, true, false, arith, List, [], ◌∷◌, ◌++◌, ◌≤◌, ◌<◌, ◌-◌, ◌*◌, length, subst, sym, ap, ◌∙◌, lit<}
+use Rattle.std.proofs.Common.{◌≡◌, ◌==◌, not, IsTrue, slice_index, ◌^◌, ℕ, ◌+◌, true, false, arith, List, [], ◌∷◌, ◌++◌, ◌≤◌, ◌<◌, ◌-◌, length, subst, lit<}
 use Rattle.at_text.specs.Texts.{is_digit}
 use Rattle.at_fixed.specs.declared.digits.KeptRun.{KeptRun}
 use Rattle.at_fixed.specs.Numerals.{AreDigits}
@@ -41,14 +41,7 @@ digit_above b h k = grind (arith, h, k)
 
 -- digits the last of which isn't a 0 spell more than 0
 pub above_zero : (w : List ℕ) (from to : ℕ) → from < to → to ≤ length w → AreDigits (between w from to) → IsTrue (not (slice_index w (to - 1) == 0x30)) → 0 < digits_behind 0 (between w from to)
-above_zero w from to order within digits last =
-    let b : ℕ = slice_index w (to - 1) in
-    let xs : List ℕ = between w from (to - 1) in
-    let back : to - 1 + 1 ≡ to = omega (arith, order) in
-    let parts : between w from to ≡ xs ++ (b ∷ []) = ap (between w from) (sym back) ∙ part-more w from (to - 1) (omega (arith, order)) (omega (arith, order, within)) in
-    let (is, none) = (digits_split xs (b ∷ []) (subst AreDigits parts digits)).1 in
-    let value : digits_behind 0 (between w from to) ≡ 10 * digits_behind 0 xs + (b - 0x30) = ap (digits_behind 0) parts ∙ behind-both 0 xs (b ∷ []) in
-    omega (arith, value, digit_above b is last)
+above_zero w from to h k l m = grind (arith, part-more, digits_split, behind-both, digit_above)
 
 -- ---- how large what is kept may be
 

@@ -1,13 +1,12 @@
 -- The point of a number and the digits behind it follow the machine.
 -- For `json_number`, `leading_number`, `plain_len`, `plain_number`, `read_fixed` and `wkt_number`.
-use Rattle.std.proofs.Common.{◌≡◌, ℕ, ◌+◌, ◌-◌, ◌^◌, ◌<◌, ◌≤◌, inl, inr, Bool, true, false, cond, nat_lt, ◌==◌, ◌&&◌, ◌||◌, IsTrue, Option, Some, None, IfSome, List, [], ◌∷◌, ◌++◌, length, take, slice_index, refl, sym, ◌∙◌, ap, subst, arith, add-one, take-suc, append-nil, append_assoc, true≢false}
+use Rattle.std.proofs.Common.{◌≡◌, ℕ, ◌+◌, ◌-◌, ◌^◌, ◌<◌, ◌≤◌, inl, inr, Bool, true, false, cond, nat_lt, ◌==◌, ◌&&◌, ◌||◌, IsTrue, Some, None, List, [], ◌∷◌, ◌++◌, length, take, slice_index, refl, sym, ◌∙◌, ap, subst, arith, add-one, take-suc, append-nil, append_assoc}
 use Rattle.std.proofs.lemmas.Bool.{and_parts, cases_lt, eqb-true, ltb-true, lt-ltb}
 use Rattle.at_text.specs.Texts.{is_digit}
 use Rattle.at_fixed.specs.declared.notation.Notation.{Notation}
-use Rattle.at_fixed.specs.declared.notation.Notation.TheVariants.{Json, Wkt}
 use Rattle.at_fixed.specs.declared.digits.DigitsRun.{DigitsRun}
 use Rattle.at_fixed.specs.declared.scanning.Mantissa.{Mantissa}
-use Rattle.at_fixed.specs.Numerals.{AreDigits, AreSomeDigits, AreWktDigits, digits_value}
+use Rattle.at_fixed.specs.Numerals.{AreDigits, AreSomeDigits, digits_value}
 use Rattle.at_fixed.specs.NumberSoFar.{between, digits_behind, Keeps, KeepsDigits}
 use Rattle.at_fixed.specs.States.{State, Reads, point, fraction, behind_digits, after_fraction, step, accepts}
 use Rattle.at_fixed.specs.Scans.{IsSignOf, IsWholeOf, after_lead, ReadsWhole, may_take_point, is_wkt, IsFrontOf, after_mantissa, ReadsMantissa}
@@ -22,39 +21,13 @@ and_after a b h k = grind (arith, h, k)
 -- ---- no point
 
 plain_next : (g : Notation) (led : Bool) (b : ℕ) → ((b == 0x2E) && (led || is_wkt g)) ≡ false → after_lead g led b ≡ after_mantissa led b
-plain_next g true b h = grind (arith, h)
-plain_next Json false b h = refl
-plain_next Wkt false b h = grind (arith, h)
-
-wkt_whole : (whole : List ℕ) (f : Option (List ℕ)) → AreSomeDigits whole → IfSome f AreDigits → AreWktDigits whole f
-wkt_whole [] f h k = absurd h
-wkt_whole (b ∷ w) f h k = (h, k)
+plain_next g led b h = grind arith
 
 plain_front : (g : Notation) (led : Bool) (sign whole : List ℕ) → IsSignOf g sign → IsWholeOf g led whole → led ≡ true → IsFrontOf g sign whole None
-plain_front g false sign whole h k e = absurd (true≢false (sym e))
-plain_front Json true sign whole h k e = (h, k, tt)
-plain_front Wkt true sign whole h k e = (h, wkt_whole whole None k tt)
+plain_front g led sign whole h k l = grind arith
 
 pub plain_by : (g : Notation) (w : List ℕ) (read : Mantissa) → ReadsWhole g w read → may_take_point g w read ≡ false → ReadsMantissa g w read
-plain_by g w read h none = record {
-  state = h.state;
-  reads = h.reads;
-  ends = h.ends;
-  next = λ inside. h.next inside ∙ plain_next g read.is_number (slice_index w read.end) (and_after (nat_lt read.end (length w)) _ (lt-ltb read.end (length w) inside) none);
-  parts = λ led. record {
-    sign = h.sign;
-    whole = h.whole;
-    fraction = None;
-    text = h.text ∙ ap (λ x. h.sign ++ x) (sym (append-nil h.whole));
-    is_front = plain_front g read.is_number h.sign h.whole h.sign_is h.whole_is led;
-    minus = h.minus;
-    keeps = subst (λ x. Keeps read.digits.kept read.digits.dropped read.digits.is_cut (digits_value x)) (sym (append-nil h.whole)) h.keeps;
-    count = h.count;
-  };
-  dropped = h.dropped;
-  fits = h.keeps.fits;
-  count = omega (arith, h.count);
-}
+plain_by g w read h k = grind (arith, plain_next, and_after, lt-ltb, append-nil, plain_front)
 
 -- ---- a point
 
@@ -63,24 +36,16 @@ abbrev after_point : Notation → Bool → State
 after_point g led = cond led (behind_digits g) point
 
 point_step : (g : Notation) (led : Bool) → (led || is_wkt g) ≡ true → after_lead g led 0x2E ≡ Some (after_point g led)
-point_step g true h = refl
-point_step Json false h = absurd (true≢false (sym h))
-point_step Wkt false h = refl
+point_step g led h = grind arith
 
 digit_behind : (g : Notation) (led : Bool) (b : ℕ) → is_digit b ≡ true → step g (after_point g led) b ≡ Some fraction
-digit_behind Json true b h = ap (λ c. cond c (Some fraction) None) h
-digit_behind Wkt true b h = ap (λ c. cond c (Some fraction) (after_fraction b)) h
-digit_behind g false b h = ap (λ c. cond c (Some fraction) None) h
+digit_behind g led b h = grind arith
 
 bare_ends : (g : Notation) (led : Bool) → accepts (after_point g led) ≡ (led && is_wkt g)
-bare_ends Json true = refl
-bare_ends Wkt true = refl
-bare_ends g false = refl
+bare_ends g led = grind arith
 
 bare_next : (g : Notation) (led : Bool) (b : ℕ) → is_digit b ≡ false → step g (after_point g led) b ≡ after_mantissa (led && is_wkt g) b
-bare_next Json true b h = ap (λ c. cond c (Some fraction) None) h
-bare_next Wkt true b h = ap (λ c. cond c (Some fraction) (after_fraction b)) h
-bare_next g false b h = ap (λ c. cond c (Some fraction) None) h
+bare_next g led b h = grind arith
 
 -- where a number stands behind the point and its digits
 record Behind (g : Notation) (w : List ℕ) (end : ℕ) (is_number : Bool) : Type 0 where
@@ -118,16 +83,11 @@ point_text w e s ws fs t h byte text k =
     k ∙ (ap (λ x. x ++ fs) next ∙ all)
 
 pub some_digits : (ds : List ℕ) → AreDigits ds → 0 < length ds → AreSomeDigits ds
-some_digits [] h k = absurd (omega arith)
-some_digits (d ∷ ds) h k = h
+some_digits ds h k = grind arith
 
 point_front : (g : Notation) (led some : Bool) (sign whole fs : List ℕ) → IsSignOf g sign → IsWholeOf g led whole → AreDigits fs → (led || is_wkt g) ≡ true
     → (some ≡ true → AreSomeDigits fs) → (some || (led && is_wkt g)) ≡ true → IsFrontOf g sign whole (Some fs)
-point_front Json true true sign whole fs h k digits m more e = (h, k, more refl)
-point_front Json false some sign whole fs h k digits m more e = absurd (true≢false (sym m))
-point_front Wkt true some sign whole fs h k digits m more e = (h, wkt_whole whole (Some fs) k digits)
-point_front Wkt false true sign whole fs h k digits m more e = (h, let P : List ℕ → Type 0 = λ x. AreWktDigits x (Some fs) in subst P (sym k) (more refl))
-point_front _ _ false sign whole fs h k digits m more e = absurd (true≢false (sym e))
+point_front g led some sign whole fs h k l m n p = grind arith
 
 pub fraction_by : (g : Notation) (w : List ℕ) (whole : Mantissa) (run : DigitsRun) (is_number : Bool) → ReadsWhole g w whole → IsTrue (may_take_point g w whole)
     → whole.end + 1 ≤ run.end → run.end ≤ length w → AreDigits (between w (whole.end + 1) run.end)

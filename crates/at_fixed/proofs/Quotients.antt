@@ -1,7 +1,7 @@
 -- The whole number of a fraction, exact or rounded, found from a part of its digits: what is left of them only has to be known
 -- to be nothing or not.
 -- For `leading_number`, `plain_len`, `plain_number`, `read_fixed` and `write_fixed`.
-use Rattle.std.proofs.Common.{◌≡◌, ℕ, ◌+◌, ◌*◌, ◌/◌, ◌%◌, ◌<◌, ◌≤◌, Bool, true, false, cond, nat_lt, ◌==◌, ◌||◌, ◌&&◌, not, Result, Ok, Err, refl, sym, ◌∙◌, ap, subst, arith, mod-lt, div-add-mod'}
+use Rattle.std.proofs.Common.{◌≡◌, ℕ, ◌+◌, ◌*◌, ◌/◌, ◌%◌, ◌<◌, ◌≤◌, Bool, cond, nat_lt, ◌==◌, ◌||◌, ◌&&◌, not, Result, Ok, Err, refl, sym, ◌∙◌, ap, subst, arith, mod-lt, div-add-mod'}
 use Rattle.std.proofs.lemmas.Nat.{div-mul-add, mod-mul-add, mul-add-lt, le-div}
 use Rattle.std.proofs.lemmas.Bool.{le-ltb, lt-ltb, ne_eqb}
 use Rattle.std.proofs.lemmas.Bool.Decides.{nat_tests}
@@ -51,19 +51,11 @@ small_split p q h = let zero : 0 * q + p ≡ p = omega arith in subst (λ x. IsS
 
 -- a fraction below a half that isn't 0
 pub far_below : (how : Coords) (p q : ℕ) → 0 < p → 2 * p < q → quotient how p q ≡ (elim how [ Exact ↦ Err Scale | Round ↦ Ok 0 ])
-far_below Exact p q positive h = exact_by p q 0 p false false (small_split p q (omega arith)) (le-ltb (largest * q) p (omega arith)) (ne_eqb p 0 (λ e. omega (arith, e, positive)))
-far_below Round p q positive h = rounded_by p q 0 (nearest_by p q 0 p false false (small_split p q (omega arith)) (le-ltb q (2 * p) (omega arith)) (ne_eqb (2 * p) q (λ e. omega (arith, e, h))))
-
-whole_above : (most n q : ℕ) → 0 < q → nat_lt (most * q) (n * q) ≡ nat_lt most n
-whole_above most n q positive = let zero : n * q + 0 ≡ n * q = omega arith in
-    ap (nat_lt (most * q)) (sym zero) ∙ (above_by most n q 0 positive ∙ grind (arith, nat_tests))
+far_below how p q h k = grind (arith, exact_by, small_split, le-ltb, ne_eqb, rounded_by, nearest_by)
 
 -- a whole number
 pub whole_quotient : (how : Coords) (n q : ℕ) → 0 < q → quotient how (n * q) q ≡ range_shape (nat_lt largest n) n
-whole_quotient Exact n q positive = let zero : n * q + 0 ≡ n * q = omega arith in
-    exact_by (n * q) q n 0 (nat_lt largest n) true (subst (λ x. IsSplit x q n 0) zero (split_at n q 0 positive)) (whole_above largest n q positive) refl
-whole_quotient Round n q positive = let zero : n * q + 0 ≡ n * q = omega arith in
-    rounded_by (n * q) q n (nearest_by (n * q) q n 0 false false (subst (λ x. IsSplit x q n 0) zero (split_at n q 0 positive)) (le-ltb q 0 (omega arith)) (ne_eqb 0 q (λ e. omega (arith, e, positive))))
+whole_quotient how n q h = grind arith
 
 nearest_least : (p q : ℕ) → p / q ≤ nearest p q
 nearest_least p q = grind (arith, nat_tests)
@@ -77,18 +69,13 @@ far_above Round p q positive h =
 
 -- ---- near
 
-some_or_none : (rest : ℕ) → (rest == 0) ≡ not (nat_lt 0 rest)
-some_or_none rest = grind (arith, nat_tests)
-
 turned : (out some : Bool) (n : ℕ) → exact_shape out (not some) n ≡ cond out (Err Range) (cond some (Err Scale) (Ok n))
 turned out some n = grind (arith, nat_tests)
 
 -- the exact number of a fraction with the whole part d and a rest of its own, where `cut` says that there is such a rest
 pub exact_near : (d q rest : ℕ) (cut : Bool) → rest < q → cut ≡ nat_lt 0 rest
     → exact_quotient (d * q + rest) q ≡ cond (nat_lt largest d || ((d == largest) && cut)) (Err Range) (cond cut (Err Scale) (Ok d))
-exact_near d q rest cut h e = rw e
-    (exact_by (d * q + rest) q d rest (nat_lt largest d || ((d == largest) && nat_lt 0 rest)) (not (nat_lt 0 rest)) (split_at d q rest h) (above_by largest d q rest h) (some_or_none rest)
-    ∙ turned (nat_lt largest d || ((d == largest) && nat_lt 0 rest)) (nat_lt 0 rest) d)
+exact_near d q rest cut h k = grind arith
 
 parity : (d : ℕ) → d + d % 2 ≡ cond (d % 2 == 1) (d + 1) d
 parity d = grind (arith, nat_tests)
@@ -121,14 +108,10 @@ rounded_near d r half D R cut h k e =
     ∙ chosen (nat_lt half r) (r == half) (nat_lt 0 R) (d % 2 == 1) d (d % 2) (parity d))))
 
 some_of : (r D R : ℕ) → R < D → (nat_lt 0 R || nat_lt 0 r) ≡ nat_lt 0 (r * D + R)
-some_of r D R h =
-    let least : 0 < r → D ≤ r * D = λ some. grind (arith, mul-le-mul_right D some) in
-    grind (arith, nat_tests)
+some_of r D R h = grind arith
 
 divided : (K Q D R : ℕ) → K * D + R ≡ (K / Q) * (Q * D) + ((K % Q) * D + R)
-divided K Q D R =
-    let split : K ≡ K / Q * Q + K % Q = sym (div-add-mod' K Q) in
-    ap (λ n. n * D + R) split ∙ grind arith
+divided K Q D R = grind arith
 
 rest_fits : (K Q D R : ℕ) → 0 < Q → R < D → (K % Q) * D + R < Q * D
 rest_fits K Q D R positive h = subst (λ n. (K % Q) * D + R < n) (mul_comm D Q) (mul-add-lt (K % Q) D R Q (mod-lt K positive) h)
@@ -157,7 +140,4 @@ pub reduced_rounded : (K Q half D R : ℕ) (cut : Bool) → 2 * half ≡ Q → 0
     → rounded_quotient (K * D + R) (Q * D)
     ≡ (let n = cond (nat_lt half (K % Q) || ((K % Q == half) && (cut || ((K / Q) % 2 == 1)))) (K / Q + 1) (K / Q) in
     cond (nat_lt largest n) (Err Range) (Ok n))
-reduced_rounded K Q half D R cut same positive h e =
-    let P : ℕ → Type 0 = λ q. rounded_quotient (K * D + R) (q * D)
-    ≡ (let n = cond (nat_lt half (K % q) || ((K % q == half) && (cut || ((K / q) % 2 == 1)))) (K / q + 1) (K / q) in cond (nat_lt largest n) (Err Range) (Ok n)) in
-    subst P same (reduced_half K half D R cut positive h e)
+reduced_rounded K Q half D R cut h k l m = grind (arith, reduced_half)

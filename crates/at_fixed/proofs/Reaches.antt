@@ -29,9 +29,7 @@ zeros_by x r p q t e = rw (sym e) (grind arith)
 
 -- the digits behind a point and those before it with zeros behind them
 zeros_split : (x r d f : ℕ) → f ≤ d → x * 10 ^ d + r * 10 ^ (d - f) ≡ (x * 10 ^ f + r) * 10 ^ (d - f)
-zeros_split x r d f few =
-    let back : f + (d - f) ≡ d = omega (arith, few) in
-    zeros_by x r (10 ^ f) (10 ^ (d - f)) (10 ^ d) (sym (pow-add 10 f (d - f)) ∙ ap (λ n. 10 ^ n) back)
+zeros_split x r d f h = grind (arith, zeros_by, pow-add)
 
 nothing_kept : Keeps 0 0 false 0
 nothing_kept = record { rest = 0; split = refl; small = lit< tt; cut = refl; full = λ some. absurd (omega (arith, some)); fits = lit< tt }

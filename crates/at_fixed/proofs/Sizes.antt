@@ -1,6 +1,6 @@
 -- The size of a number from what is kept of it.
 -- For `leading_number`, `plain_len`, `plain_number`, `read_fixed` and `write_fixed`.
-use Rattle.std.proofs.Common.{◌≡◌, ℕ, zero, suc, ◌+◌, ◌-◌, ◌*◌, ◌^◌, ◌<◌, ◌≤◌, ◌⊎◌, inl, inr, Bool, true, false, cond, nat_lt, Option, Some, None, Result, Ok, Err, refl, sym, ◌∙◌, ap, subst, arith, lit<}
+use Rattle.std.proofs.Common.{◌≡◌, ℕ, zero, suc, ◌+◌, ◌-◌, ◌*◌, ◌^◌, ◌<◌, ◌≤◌, ◌⊎◌, inl, inr, Bool, true, cond, nat_lt, Option, Result, Ok, Err, refl, sym, ◌∙◌, ap, subst, arith, lit<}
 use Rattle.std.proofs.lemmas.Nat.{pow-add}
 use Rattle.std.proofs.lemmas.Bool.{cases_lt, lt-ltb}
 use Rattle.std.proofs.lemmas.Bool.Decides.{nat_tests}
@@ -8,8 +8,8 @@ use Rattle.std.proofs.Math.Nat.{mul-le-mul_right, pow-le-pow_right, mul-lt-mul_o
 use Rattle.at_fixed.specs.declared.rounding.Coords.{Coords}
 use Rattle.at_fixed.specs.declared.rounding.FixedFault.{FixedFault}
 use Rattle.at_fixed.specs.declared.rounding.FixedFault.TheVariants.{Range}
-use Rattle.at_fixed.specs.Numerals.{Exponent, digits_value}
-use Rattle.at_fixed.specs.Fixed.{largest, quotient, size_of, has_minus, exponent_above, exponent_below}
+use Rattle.at_fixed.specs.Numerals.{Exponent}
+use Rattle.at_fixed.specs.Fixed.{largest, quotient, size_of, exponent_above, exponent_below}
 use Rattle.at_fixed.specs.NumberSoFar.{Keeps, huge, SameOrHuge}
 use Rattle.at_fixed.proofs.Quotients.{far_above, whole_quotient}
 
@@ -21,8 +21,7 @@ pow_positive k = one-le-pow k 10 ten
 
 -- a number is at least 1, or nothing
 pub size_positive : (how : Coords) (m a b : ℕ) → 0 < m → size_of how m a b ≡ quotient how (m * 10 ^ a) (10 ^ b)
-size_positive how zero a b h = absurd (omega arith)
-size_positive how (suc m) a b h = refl
+size_positive how m a b h = grind arith
 
 spread : (K R D A : ℕ) → (K * D + R) * A ≡ K * (D * A) + R * A
 spread K R D A = grind arith
@@ -70,12 +69,7 @@ vast_kept K E s h k =
 
 -- an exponent is 0 on one side
 pub one_side : (e : Option Exponent) → (exponent_above e ≡ 0) ⊎ (exponent_below e ≡ 0)
-one_side None = inl refl
-one_side (Some e) = either (has_minus e.sign) (digits_value e.digits)
-  where
-    either : (minus : Bool) (size : ℕ) → (cond minus 0 size ≡ 0) ⊎ (cond minus size 0 ≡ 0)
-    either true size = inl refl
-    either false size = inr refl
+one_side e = grind arith
 
 -- the size from what is kept, by the powers of ten above and below the fraction
 pub record Sized (K d : ℕ) (cut : Bool) (M digits f above below A B : ℕ) : Type 0 where
@@ -90,8 +84,7 @@ pub record Sized (K d : ℕ) (cut : Bool) (M digits f above below A B : ℕ) : T
 
 -- where one side is huge the other is nothing
 nothing : (kept size : ℕ) → SameOrHuge kept size → size ≡ 0 → kept ≡ 0
-nothing kept size (inl same) e = same ∙ e
-nothing kept size (inr (k, h)) e = absurd (omega (arith, h, e))
+nothing kept size h k = grind arith
 
 -- both exponents are kept, or one is huge and the other nothing
 data Side (above below A B : ℕ) : Type 0 where
@@ -100,20 +93,14 @@ data Side (above below A B : ℕ) : Type 0 where
   below_huge : huge ≤ below → huge ≤ B → above ≡ 0 → A ≡ 0 → Side above below A B
 
 side_by : (above below A B : ℕ) → SameOrHuge above A → SameOrHuge below B → (A ≡ 0) ⊎ (B ≡ 0) → Side above below A B
-side_by above below A B (inl e) (inl f) one = both_kept e f
-side_by above below A B (inr (k, h)) b (inl one) = absurd (omega (arith, h, one))
-side_by above below A B (inr (k, h)) b (inr one) = above_huge k h (nothing below B b one) one
-side_by above below A B (inl e) (inr (k, h)) (inl one) = below_huge k h (e ∙ one) one
-side_by above below A B (inl e) (inr (k, h)) (inr one) = absurd (omega (arith, h, one))
+side_by above below A B h k l = grind arith
 
 raised : (K B E : ℕ) → K * 10 ^ (B + E) ≡ K * 10 ^ E * 10 ^ B
 raised K B E = ap (λ n. K * n) (pow-add 10 B E) ∙ grind arith
 
 out_by : (how : Coords) (K d R M A B E s : ℕ) → M ≡ K * 10 ^ d + R → 10 ^ s ≤ K → 15 ≤ s + E → B + 15 ≤ s + (d + A)
     → cond (nat_lt largest (K * 10 ^ E)) (Err Range) (Ok (K * 10 ^ E)) ≡ quotient how (M * 10 ^ A) (10 ^ B)
-out_by how K d R M A B E s split h k l =
-    ap (λ b. cond b (Err Range) (Ok (K * 10 ^ E))) (vast_kept K E s h k)
-    ∙ sym (far_above how (M * 10 ^ A) (10 ^ B) (pow_positive B) (subst (λ n. (largest + 1) * 10 ^ B ≤ n * 10 ^ A) (sym split) (vast K R d A B s h l)))
+out_by how K d R M A B E s h k l m = grind (arith, vast_kept, far_above, pow_positive, vast)
 
 least_kept : (K d R M : ℕ) → M ≡ K * 10 ^ d + R → 0 < K → 0 < M
 least_kept K d R M e h = omega (arith, e, le-mul_of_pos_right K (pow_positive d), h)
@@ -148,8 +135,7 @@ sized_up how K d M digits f above below A B cut h order =
 
 far_down : (how : Coords) (K d R M A B : ℕ) (answer : Result ℕ FixedFault) → M ≡ K * 10 ^ d + R → R < 10 ^ d → K < 10 ^ 19 → 0 < M → A + d + 20 ≤ B
     → ((p q : ℕ) → 0 < p → 2 * p < q → answer ≡ quotient how p q) → answer ≡ quotient how (M * 10 ^ A) (10 ^ B)
-far_down how K d R M A B answer split small fits positive h far =
-    far (M * 10 ^ A) (10 ^ B) (mul-pos positive (pow_positive A)) (subst (λ n. 2 * (n * 10 ^ A) < 10 ^ B) (sym split) (tiny K R d A B fits small h))
+far_down how K d R M A B answer h k l m n r = grind (arith, mul-pos, pow_positive, tiny)
 
 near_down : (how : Coords) (K d R M A B k : ℕ) (cut : Bool) (answer : Result ℕ FixedFault) → M ≡ K * 10 ^ d + R → R < 10 ^ d → cut ≡ nat_lt 0 R → B ≡ A + d + k
     → ((unit rest : ℕ) → rest < unit → cut ≡ nat_lt 0 rest → answer ≡ quotient how (K * unit + rest) (10 ^ k * unit)) → answer ≡ quotient how (M * 10 ^ A) (10 ^ B)

@@ -1,50 +1,38 @@
 -- A text spells at most one number, of JSON or of WKT, and a reader that takes the longest viable prefix takes a number whole.
 -- For `leading_number`, `plain_len`, `plain_number` and `read_fixed`.
-use Rattle.std.proofs.Common.{◌≡◌, ℕ, ◌⊎◌, inl, inr, List, [], ◌∷◌, ◌++◌, length, take, Option, Some, None, IfSome, IsTrue, ◌&&◌, nat_le, Result, Ok, ℤ, true, refl, sym, ◌∙◌, ap, subst, arith, append-nil}
+use Rattle.std.proofs.Common.{◌≡◌, ℕ, ◌⊎◌, inl, inr, List, [], ◌∷◌, ◌++◌, length, take, Option, IfSome, IsTrue, Result, Ok, ℤ, true, sym, ◌∙◌, ap, subst, arith, append-nil}
 use Rattle.std.proofs.Math.Seq.{take-length}
 use Rattle.at_text.specs.declared.prefixes.Taken.{Taken}
 use Rattle.at_text.specs.Prefix.{LongestViable, TakesLongest}
-use Rattle.at_text.specs.Texts.{is_digit}
 use Rattle.at_text.proofs.Machine.{longest_unique}
 use Rattle.at_fixed.specs.declared.notation.Notation.{Notation}
-use Rattle.at_fixed.specs.declared.notation.Notation.TheVariants.{Json, Wkt}
 use Rattle.at_fixed.specs.declared.rounding.Coords.{Coords}
 use Rattle.at_fixed.specs.declared.rounding.FixedFault.{FixedFault}
-use Rattle.at_fixed.specs.Numerals.{Numeral, numeral_text, IsAtMostOneOf, AreDigits, AreSomeDigits, IsJsonWhole, IsJsonNumeral, AreWktDigits, IsWktNumeral, IsNumeralOf, NumberOf, SpellsNumeral, JsonNumber, WktNumber}
+use Rattle.at_fixed.specs.Numerals.{Numeral, numeral_text, IsAtMostOneOf, AreDigits, AreSomeDigits, IsJsonWhole, IsJsonNumeral, AreWktDigits, IsWktNumeral, IsNumeralOf, SpellsNumeral, JsonNumber, WktNumber}
 use Rattle.at_fixed.specs.Fixed.{fixed_of, IsFixedOf}
 use Rattle.at_fixed.specs.Decimals.{IsDecimalOf}
 use Rattle.at_fixed.specs.Scanned.{IsPlain, IsScanned}
 use Rattle.at_fixed.specs.declared.scanning.Scanned.{Scanned}
-use Rattle.at_fixed.proofs.NumeralParts.{one_numeral, some_are_digits}
+use Rattle.at_fixed.proofs.NumeralParts.{one_numeral}
 
 json_sign : (s : List ℕ) → IsAtMostOneOf (0x2D ∷ []) s → IsAtMostOneOf (0x2B ∷ 0x2D ∷ []) s
-json_sign [] h = tt
-json_sign (b ∷ []) h = grind (arith, h)
-json_sign (b ∷ c ∷ s) h = absurd h
-
-first_is_digit : (b : ℕ) → IsTrue (nat_le 0x31 b && nat_le b 0x39) → IsTrue (is_digit b)
-first_is_digit b h = grind (arith, h)
+json_sign s h = grind arith
 
 json_digits : (w : List ℕ) (f : Option (List ℕ)) → IsJsonWhole w → IfSome f AreDigits → AreWktDigits w f
-json_digits [] f h k = absurd h
-json_digits (b ∷ w) f (inl (e, none)) k = ((rw e refl, rw none tt), k)
-json_digits (b ∷ w) f (inr (h, hs)) k = ((first_is_digit b h, hs), k)
+json_digits w f h k = grind arith
 
 json_fraction : (f : Option (List ℕ)) → IfSome f AreSomeDigits → IfSome f AreDigits
-json_fraction None h = tt
-json_fraction (Some ds) h = some_are_digits ds h
+json_fraction f h = grind arith
 
 -- each number of JSON is one of WKT
 pub json_is_wkt : (n : Numeral) → IsJsonNumeral n → IsWktNumeral n
 json_is_wkt n h = record { sign = json_sign n.sign h.sign; digits = json_digits n.whole n.fraction h.whole (json_fraction n.fraction h.fraction); exponent = h.exponent }
 
 is_wkt : (n : Numeral) → IsJsonNumeral n ⊎ IsWktNumeral n → IsWktNumeral n
-is_wkt n (inl h) = json_is_wkt n h
-is_wkt n (inr h) = h
+is_wkt n h = grind arith
 
 either_of : (g : Notation) (n : Numeral) → IsNumeralOf g n → IsJsonNumeral n ⊎ IsWktNumeral n
-either_of Json n h = inl h
-either_of Wkt n h = inr h
+either_of g n h = grind arith
 
 -- a text spells at most one number
 pub one_spelled : (text : List ℕ) (n m : Numeral) → SpellsNumeral text n → SpellsNumeral text m → m ≡ n
@@ -62,12 +50,7 @@ fixed_by g text digits how answer n h e v = record {
 -- what a scan found at the beginning of a text, where it has a value
 pub scanned_plain : (g : Notation) (w : List ℕ) (digits : ℕ) (how : Coords) (scanned : Scanned) (value : ℤ) → IsScanned g w scanned × (scanned.is_number ≡ true)
     → ((n : Numeral) → IsDecimalOf scanned.decimal n → Ok value ≡ fixed_of n digits how) → IsPlain g w digits how (record { len = scanned.len; value = value })
-scanned_plain g w digits how scanned value (h, is_number) value_is =
-    let (n, m, e, kept) = h.value is_number in
-    record {
-      taken = subst (λ b. TakesLongest (NumberOf g) w (record { len = scanned.len; whole = b })) is_number h.taken;
-      value = fixed_by g (take scanned.len w) digits how (Ok value) n m e (value_is n kept);
-    }
+scanned_plain g w digits how scanned value h k = grind (arith, fixed_by)
 
 pub json_text : (w : List ℕ) → JsonNumber w ⊎ WktNumber w → WktNumber w
 json_text w (inl (n, h, e)) = (n, json_is_wkt n h, e)

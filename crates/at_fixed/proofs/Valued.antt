@@ -130,12 +130,7 @@ front_number g w front h =
 
 front_value : (g : Notation) (w : List ℕ) (front : Mantissa) (n : Numeral) (digits : ℕ) (how : Coords) → IsFrontNumber g w front n
     → fixed_of n digits how ≡ signed front.is_minus (size_of how front.digits.kept digits front.fraction)
-front_value g w front n digits how h =
-    let A : ℕ = digits + exponent_above n.exponent in let B : ℕ = length (fraction_digits n) + exponent_below n.exponent in
-    let up : A ≡ digits = omega (arith, h.above) in
-    ap (λ b. signed b (size_of how (mantissa n) A B)) h.minus
-    ∙ (ap (λ k. signed front.is_minus (size_of how k A B)) h.size
-    ∙ (ap (λ a. signed front.is_minus (size_of how front.digits.kept a B)) up ∙ ap (λ b. signed front.is_minus (size_of how front.digits.kept digits b)) h.places))
+front_value g w front n digits how h = grind arith
 
 signed_ok : (minus : Bool) (r : Result ℕ FixedFault) (s : ℕ) → r ≡ Ok s → (v : ℤ) × (signed minus r ≡ Ok v)
 signed_ok minus r s e = (if minus then neg_ℤ (pos s) else pos s, ap (signed minus) e)

@@ -1,6 +1,6 @@
 -- The items that a reader finds: leads, strings and runs, whole, refused or begun.
 -- For most public calls of the crate, `copy`, `from_slice`, `lex` among them.
-use Rattle.std.proofs.Common.{◌≡◌, ◌≢◌, ℕ, zero, suc, ◌+◌, ◌-◌, ◌<◌, ◌≤◌, ◌⊎◌, inl, inr, List, [], ◌∷◌, ◌++◌, length, take, drop, Option, Some, None, Bool, true, false, cond, ◌||◌, ◌==◌, not, refl, sym, ◌∙◌, ap, subst, arith, length-drop, take-append-drop, take-take, true≢false, drop-drop}
+use Rattle.std.proofs.Common.{◌≡◌, ◌≢◌, ℕ, zero, suc, ◌+◌, ◌-◌, ◌<◌, ◌≤◌, ◌⊎◌, inl, inr, List, [], ◌∷◌, ◌++◌, length, take, drop, Option, Some, None, Bool, true, false, cond, ◌==◌, not, refl, sym, ◌∙◌, ap, subst, arith, length-drop, take-append-drop, take-take, true≢false, drop-drop}
 use Rattle.std.proofs.Math.ListN.{drop_of_length-le}
 use native.Mathlib.Decide.{dec_lt}
 use Rattle.std.proofs.Math.Seq.{take-add, drop-append-add}
@@ -15,17 +15,15 @@ use Rattle.at_lex.specs.declared.tokens.Start.TheVariants.{Out, InString}
 use Rattle.at_lex.specs.declared.tokens.Lead.{Lead}
 use Rattle.at_lex.specs.declared.tokens.Lead.TheVariants as leads
 use Rattle.at_lex.specs.Strings.{JsonString}
-use Rattle.at_lex.specs.StringStates.{State, opening, inside, closed, step, accepts, lexical_of, StopsAt}
+use Rattle.at_lex.specs.StringStates.{State, inside, closed, step, accepts, lexical_of, StopsAt}
 use Rattle.at_lex.specs.declared.tokens.Pend.{Pend}
 use Rattle.at_lex.specs.declared.tokens.Token.{Token}
 use Rattle.at_lex.specs.declared.tokens.TokenKind.{TokenKind}
-use Rattle.at_lex.specs.declared.tokens.TokenKind.TheVariants.{Opens, Closes, Comma, Colon, Text, Run, Broken}
-use Rattle.at_lex.specs.declared.tokens.Bracket.TheVariants.{Brace, Square}
 use Rattle.at_lex.specs.declared.tokens.Item.{Item}
 use Rattle.at_lex.specs.declared.tokens.Item.TheVariants.{Whole, End}
-use Rattle.at_lex.specs.Spans.{begins_run, AreRun, AreSpaces, EndsRun, IsText, IsRefused, IsKind, IsToken, AreTokens, IsPend, left_behind, is_broken, end_behind, ClosesText, StaysInText, end_of, IsLead, HasItems}
+use Rattle.at_lex.specs.Spans.{begins_run, AreRun, AreSpaces, EndsRun, IsText, IsRefused, IsKind, IsToken, AreTokens, IsPend, left_behind, end_behind, ClosesText, StaysInText, end_of, IsLead, HasItems}
 use Rattle.at_lex.specs.Stream.{Left, IsFirstItem, IsBegun, GivesItem, HasLeft, BeginsItems}
-use Rattle.std.specs.List.{slice_get, list_any}
+use Rattle.std.specs.List.{slice_get}
 use Rattle.at_lex.specs.Fronts.{IsFront}
 use Rattle.at_lex.proofs.FrontLemmas.{front_all, front_behind, run_stops}
 use Rattle.at_lex.proofs.RunBytes.{run_append, some_run, some_bytes, run_out, spaces_out}
@@ -99,11 +97,7 @@ no_opening : (n : ℕ) → ◌≡◌ {A = Option State} (Some inside) None → �
 no_opening n e = none-some inside (sym e)
 
 pub has_begun : (w u : List ℕ) (n : ℕ) (t : State) → w ≡ 0x22 ∷ u → StopsAt w n t → HasBegun w n t
-has_begun w u n t e h = by_count n (subst (λ v. StopsAt v n t) e h) refl
-  where
-    by_count : (m : ℕ) → StopsAt (0x22 ∷ u) m t → n ≡ m → HasBegun w n t
-    by_count zero k f = absurd (no_opening 0 (ap (λ s. step s 0x22) (same_Some opening t k.goes) ∙ k.stops (omega arith)))
-    by_count (suc m) k f = record { tail = u; count = m; whole = e; len = f; goes = k.goes }
+has_begun w u n t h k = grind arith
 
 begun_bytes : (w : List ℕ) (n : ℕ) (t : State) (h : HasBegun w n t) → take n w ≡ 0x22 ∷ take h.count h.tail
 begun_bytes w n t h = ap (λ v. take n v) h.whole ∙ ap (λ m. take m (0x22 ∷ h.tail)) h.len
@@ -122,8 +116,7 @@ taken_string : (w : List ℕ) (n : ℕ) (t : State) → StopsAt w n t → TakesL
 taken_string w n t s = string_at t w n s.fits s.goes s.stops
 
 closed_is : (t : State) → accepts t ≡ true → is_within t ≡ true → ⊥
-closed_is closed h k = true≢false (sym k)
-closed_is _ h k = true≢false (sym h)
+closed_is t h k = grind arith
 
 pub whole_text : (w u : List ℕ) (n : ℕ) (t : State) → w ≡ 0x22 ∷ u → StopsAt w n t → accepts t ≡ true → IsText (take n w) × JsonString (take n w)
 whole_text w u n t e s a = let h = has_begun w u n t e s in (
@@ -141,9 +134,7 @@ pub unfinished_in_text : (w u : List ℕ) (n : ℕ) (t : State) → w ≡ 0x22 �
 unfinished_in_text w u n t e s a = within_no_out t (unfinished_within w n t (has_begun w u n t e s) a)
 
 some_closing : (s : Start) (k : ℕ) (v : List ℕ) → s ≢ Out → ClosesText s (take k v) → 0 < k
-some_closing Out k v n h = absurd (n refl)
-some_closing s (suc k) v n h = omega arith
-some_closing _ zero v n h = absurd h
+some_closing s k v h l = grind arith
 
 -- a string that is refused at the place n and is closed by k bytes more
 pub refused_text : (w u : List ℕ) (n k : ℕ) (t : State) → w ≡ 0x22 ∷ u → StopsAt w n t → accepts t ≡ false → n + k ≤ length w → ClosesText (lexical_of t) (take k (drop n w))
@@ -177,8 +168,7 @@ open_text w u n t e s a stays =
 -- ---- leads
 
 pub closes_lead : (s : Start) (at i : ℕ) (u after : List ℕ) → s ≢ Out → ClosesText s u → i ≡ at + length u → IsLead s at u (leads.TextEnds i) after
-closes_lead Out at i u after n h e = absurd (n refl)
-closes_lead _ at i u after n h e = (e, h)
+closes_lead s at i u after h k l = grind arith
 
 -- what begins with a quote
 pub quote_first : (w : List ℕ) → slice_get w 0 ≡ Some 0x22 → (u : List ℕ) × (w ≡ 0x22 ∷ u)
@@ -191,11 +181,7 @@ front_run : (w : List ℕ) (n : ℕ) → IsFront is_run w n → AreRun (take n w
 front_run w n h = front_all is_run w n h
 
 pub lead_none : (at : ℕ) (w : List ℕ) (n : ℕ) → IsFront is_run w n → n ≡ 0 → IsLead Out at (take n w) leads.Nothing (drop n w)
-lead_none at w n h e = (ap (λ m. take m w) e ∙ take_none w, ap not (run_stops w n h.stops))
-  where
-    take_none : (v : List ℕ) → take 0 v ≡ []
-    take_none [] = refl
-    take_none (b ∷ v) = refl
+lead_none at w n h k = grind arith
 
 pub lead_all : (at : ℕ) (w : List ℕ) (n : ℕ) → IsFront is_run w n → n ≢ 0 → n ≡ length w → IsLead Out at (take n w) leads.AllRun (drop n w)
 lead_all at w n h some e = (some_run (take n w) (let l = length-take-le n w h.fits in omega (arith, l, some)) (front_run w n h), drop_of_length-le w (let k : length w ≤ n = omega (arith, e) in k))
@@ -240,48 +226,24 @@ gives_end old n pend end fits spaces out (is, state) =
 
 -- where bytes are left, the reader is outside text
 pub out_left : (s : Start) (w : List ℕ) → (s ≢ Out → w ≡ []) → (length w == 0) ≡ false → s ≡ Out
-out_left Out w h k = refl
-out_left _ w h k = absurd (true≢false (sym (ap (λ v. length v == 0) (h (λ e. cc))) ∙ k))
+out_left s w h k = grind arith
 
 -- ---- items as a list
 
 -- a whole token leads outside text again
 kind_out : (at : ℕ) (v r : List ℕ) (kind : TokenKind) → IsKind at v r kind → end_of Out v ≡ Out
-kind_out at v r (Opens Brace) e = ap (end_of Out) e
-kind_out at v r (Opens Square) e = ap (end_of Out) e
-kind_out at v r (Closes Brace) e = ap (end_of Out) e
-kind_out at v r (Closes Square) e = ap (end_of Out) e
-kind_out at v r Text ((u, e, h), k) = ap (end_of Out) e ∙ closes_end InString u h
-kind_out at v r Run (((h, hs), k, i), j) = run_out v hs
-kind_out at v r (Broken place) (n, e, inl ((u, f, h), k, j)) = ap (end_of Out) f ∙ closes_end InString u h
-kind_out at v r (Broken place) (n, e, inr (((h, hs), k, i), j)) = run_out v hs
-kind_out at v r _ e = ap (end_of Out) e
+kind_out at v r kind h = grind (arith, closes_end, run_out)
 
 past_token : (a v r : List ℕ) (at : ℕ) (kind : TokenKind) → AreSpaces a → IsKind at v r kind → end_of Out (a ++ (v ++ r)) ≡ end_of Out r
-past_token a v r at kind h k =
-    end_append Out a (v ++ r) ∙ (ap (λ (s : Start). end_of s (v ++ r)) (spaces_out a h)
-    ∙ (end_append Out v r ∙ ap (λ (s : Start). end_of s r) (kind_out at v r kind k)))
+past_token a v r at kind h k = grind (arith, end_append, spaces_out, kind_out)
 
 same_end : (b : Bool) → ◌≡◌ {A = Start} (cond b Out Out) Out
-same_end true = refl
-same_end false = refl
+same_end b = grind arith
 
 -- a token in front of what is left behind it
 whole_items : (old : Left) (t : Token) (a v r : List ℕ) (ts : List Token) (pend : Pend) (end : Start) → old.state ≡ Out → old.rest ≡ a ++ (v ++ r) → AreSpaces a → IsToken (old.at + length a) v r t
     → AreTokens t.to (left_behind t.kind r) ts pend → end ≡ end_behind ts (end_of Out (left_behind t.kind r)) → HasLeft old (t ∷ ts) pend end
-whole_items old t a v r ts pend end out split spaces (from, to, kind) tokens state = ((a, v, r, split, spaces, (from, to, kind), tokens), state ∙ sym (by_kind t.kind kind))
-  where
-    all : (k : TokenKind) → IsKind (old.at + length a) v r k → end_of old.state old.rest ≡ end_of Out r
-    all k h = ap (λ (s : Start). end_of s old.rest) out ∙ (ap (end_of Out) split ∙ past_token a v r (old.at + length a) k spaces h)
-
-    by_kind : (k : TokenKind) → IsKind (old.at + length a) v r k → cond (is_broken k || list_any (λ (x : Token). is_broken x.kind) ts) Out (end_of old.state old.rest) ≡ end_behind ts (end_of Out (left_behind k r))
-    by_kind (Broken place) h = sym (same_end (list_any (λ (x : Token). is_broken x.kind) ts))
-    by_kind (Opens b) h = ap (end_behind ts) (all (Opens b) h)
-    by_kind (Closes b) h = ap (end_behind ts) (all (Closes b) h)
-    by_kind Comma h = ap (end_behind ts) (all Comma h)
-    by_kind Colon h = ap (end_behind ts) (all Colon h)
-    by_kind Text h = ap (end_behind ts) (all Text h)
-    by_kind Run h = ap (end_behind ts) (all Run h)
+whole_items old t a v r ts pend end h k l m n p = grind (arith, past_token, same_end)
 
 pub item_begins : (old new : Left) (item : Item) → GivesItem old item new → BeginsItems old item new
 item_begins old new (Whole t) (a, v, r, out, split, spaces, is, e) = λ ts pend end h.
@@ -293,11 +255,4 @@ item_begins old new (End pend end) (a, v, split, spaces, is, state, e) = ((a, v,
 -- the lead and what is left behind it are the items of the piece
 pub all_items : (s : Start) (at : ℕ) (w : List ℕ) (lead : Lead) (left : Left) (tokens : List Token) (pend : Pend) (end : Start) → IsBegun s at w lead left → HasLeft left tokens pend end
     → HasItems s at w (record { lead = lead; tokens = tokens; pend = pend; end = end })
-all_items s at w lead left tokens pend end (u, split, is, place, state) (items, last) = record {
-  first = u;
-  others = left.rest;
-  split = split;
-  lead = is;
-  tokens = subst (λ i. AreTokens i left.rest tokens pend) place items;
-  end = last ∙ ap (end_behind tokens) (ap (λ (x : Start). end_of x left.rest) state ∙ (sym (end_append s u left.rest) ∙ ap (end_of s) (sym split)));
-}
+all_items s at w lead left tokens pend end h k = grind (arith, end_append)

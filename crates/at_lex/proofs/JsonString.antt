@@ -23,8 +23,7 @@ Rest closed [] = ⊤
 Rest _ _ = ⊥
 
 plain_at : (b : ℕ) → is_plain b ≡ true → step inside b ≡ Some inside
-plain_at b h = let p : (b == 0x22) ≡ false = grind (arith, h) in let q : (b == 0x5C) ≡ false = grind (arith, h) in
-    ap (λ c. cond (b == 0x22) (Some closed) (cond (b == 0x5C) (Some escaped) (cond c (Some inside) None))) h ∙ rw (p, q) refl
+plain_at b h = grind arith
 
 escape_at : (b : ℕ) → is_escape b ≡ true → step escaped b ≡ Some inside
 escape_at b h = let p : (b == 0x75) ≡ false = grind (arith, h) in rw (p, h) refl
@@ -46,12 +45,10 @@ goes hex1 b w (h, r) = (inside, ap (λ c. cond c (Some inside) None) h, r)
 goes closed b w r = absurd r
 
 by_test : (c : Bool) (s t : State) (o : Option State) (w : List ℕ) → cond c (Some s) o ≡ Some t → Rest t w → ((c ≡ true) × Rest s w) ⊎ (o ≡ Some t)
-by_test true s t o w e r = inl (refl, moved s t w e r)
-by_test false s t o w e r = inr e
+by_test c s t o w h k = grind arith
 
 by_last : (c : Bool) (s t : State) (w : List ℕ) → cond c (Some s) None ≡ Some t → Rest t w → (c ≡ true) × Rest s w
-by_last true s t w e r = (refl, moved s t w e r)
-by_last false s t w e r = absurd (none-some t e)
+by_last c s t w h k = grind arith
 
 by_byte : (b c : ℕ) {A : Type 0} → (b == c) ≡ true → A → (b ≡ c) × A
 by_byte b c h a = (eqb-true b c h, a)
@@ -79,8 +76,7 @@ no : ⊥ ↔ IsTrue false
 no = ((λ x. absurd x), (λ e. true≢false (sym e)))
 
 ends : (s : State) → Rest s [] ↔ IsTrue (accepts s)
-ends closed = ((λ _. refl), (λ _. tt))
-ends _ = no
+ends s = grind arith
 
 lives : (s : State) → (w : List ℕ) × Rest s w
 lives opening = (0x22 ∷ 0x22 ∷ [], (refl, inl (refl, tt)))
@@ -133,8 +129,7 @@ inside_from (b ∷ c ∷ g ∷ i ∷ k ∷ m ∷ w) (inr (inl (e, inl (f, (h, (j
 )
 
 opening_from : (w : List ℕ) → Rest opening w → JsonString w
-opening_from [] r = absurd r
-opening_from (b ∷ w) (e, r) = let (cs, hs, f) = inside_from w r in (cs, hs, ap (λ x. x ∷ w) e ∙ ap (λ x. 0x22 ∷ x) f)
+opening_from w h = grind (arith, inside_from)
 
 pub opening-JsonString : (w : List ℕ) → Rest opening w ↔ JsonString w
 opening-JsonString w = (opening_from w, λ (cs, hs, e). let P : List ℕ → Type 0 = Rest opening in subst P (sym e) (refl, inside_of cs hs))

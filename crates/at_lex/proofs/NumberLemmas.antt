@@ -22,8 +22,7 @@ digits_whole [] (suc n) f k h = absurd (let e = f.fits in omega (arith, e))
 digits_whole (b ∷ w) (suc n) f k h = let all = front_all is_digit (b ∷ w) (suc n) f in inr (first_nonzero b all.0 k, all.1)
 
 some_of : (w : List ℕ) → 0 < length w → AreDigits w → AreSomeDigits w
-some_of [] h k = absurd (omega (arith, h))
-some_of (b ∷ w) h k = k
+some_of w h k = grind arith
 
 -- a point and digits
 pub point_fraction : (w : List ℕ) (n : ℕ) → (length w ≡ 0 → ⊥) → slice_index w 0 ≡ 0x2E → IsFront is_digit (take (length w - 1) (drop 1 w)) n → n ≢ 0 → IsFraction w (1 + n)

@@ -1,13 +1,13 @@
 -- Literals and numbers are runs of bytes, and so is what begins one.
 -- For most public calls of the crate, `copy`, `from_slice`, `lex` among them.
-use Rattle.std.proofs.Common.{◌≡◌, ◌≢◌, ℕ, ◌<◌, inl, inr, List, [], ◌∷◌, ◌++◌, length, Option, Some, None, IfSome, true, false, cond, ◌==◌, refl, sym, ◌∙◌, ap, subst, arith}
+use Rattle.std.proofs.Common.{rules, ◌≡◌, ◌≢◌, ℕ, ◌<◌, inl, inr, List, [], ◌∷◌, ◌++◌, length, Option, IfSome, true, false, cond, ◌==◌, refl, ◌∙◌, ap, arith}
 use Rattle.at_text.specs.Prefix.{Viable}
 use Rattle.at_text.specs.Texts.{is_digit, is_space, is_run, is_one_of}
 use Rattle.at_fixed.specs.Numerals.{Exponent, fraction_text, exponent_text, IsAtMostOneOf, AreDigits, AreSomeDigits, IsExponent, IsJsonWhole}
 use Rattle.at_fixed.proofs.NumberMachine.{one_of_two}
 use Rattle.at_lex.specs.declared.tokens.Start.{Start}
 use Rattle.at_lex.specs.declared.tokens.Start.TheVariants.{Out, InString}
-use Rattle.at_lex.specs.Runs.{Literal, the_false, literal_text, JsonRun}
+use Rattle.at_lex.specs.Runs.{Literal, literal_text, JsonRun}
 use Rattle.at_lex.specs.Spans.{AreRun, AreSpaces, IsRun, end_of}
 
 pub run_append : (u v : List ℕ) → AreRun u → AreRun v → AreRun (u ++ v)
@@ -24,9 +24,6 @@ digit_run b h = grind (arith, h)
 sign_run : (b : ℕ) → is_one_of (0x2B ∷ 0x2D ∷ []) b ≡ true → is_run b ≡ true
 sign_run b h = elim (one_of_two 0x2B 0x2D b h) [ inl e ↦ ap is_run e | inr e ↦ ap is_run e ]
 
-minus_run : (b : ℕ) → is_one_of (0x2D ∷ []) b ≡ true → is_run b ≡ true
-minus_run b h = grind (arith, h)
-
 letter_run : (b : ℕ) → is_one_of (0x65 ∷ 0x45 ∷ []) b ≡ true → is_run b ≡ true
 letter_run b h = elim (one_of_two 0x65 0x45 b h) [ inl e ↦ ap is_run e | inr e ↦ ap is_run e ]
 
@@ -35,40 +32,28 @@ digits_run [] h = tt
 digits_run (b ∷ w) (h, hs) = (digit_run b h, digits_run w hs)
 
 some_digits_run : (w : List ℕ) → AreSomeDigits w → AreRun w
-some_digits_run [] h = absurd h
-some_digits_run (b ∷ w) (h, hs) = (digit_run b h, digits_run w hs)
+some_digits_run w h = grind (arith, digit_run, digits_run)
 
 signs_run : (w : List ℕ) → IsAtMostOneOf (0x2B ∷ 0x2D ∷ []) w → AreRun w
-signs_run [] h = tt
-signs_run (b ∷ []) h = (sign_run b h, tt)
-signs_run (b ∷ c ∷ w) h = absurd h
+signs_run w h = grind (arith, sign_run)
 
 minuses_run : (w : List ℕ) → IsAtMostOneOf (0x2D ∷ []) w → AreRun w
-minuses_run [] h = tt
-minuses_run (b ∷ []) h = (minus_run b h, tt)
-minuses_run (b ∷ c ∷ w) h = absurd h
+minuses_run w h = grind arith
 
 whole_run : (w : List ℕ) → IsJsonWhole w → AreRun w
-whole_run [] h = absurd h
-whole_run (b ∷ w) (inl (e, f)) = (ap is_run e, subst AreRun (sym f) tt)
-whole_run (b ∷ w) (inr (h, hs)) = (digit_run b (grind (arith, h)), digits_run w hs)
+whole_run w h = search (rules, digit_run, digits_run)
 
 fraction_run : (f : Option (List ℕ)) → IfSome f AreSomeDigits → AreRun (fraction_text f)
-fraction_run None h = tt
-fraction_run (Some w) h = (refl, some_digits_run w h)
+fraction_run f h = grind (arith, some_digits_run)
 
 exponent_run : (e : Option Exponent) → IfSome e IsExponent → AreRun (exponent_text e)
-exponent_run None h = tt
-exponent_run (Some e) h = (letter_run e.letter h.letter, run_append e.sign e.digits (signs_run e.sign h.sign) (some_digits_run e.digits h.digits))
+exponent_run e h = grind (arith, letter_run, run_append, signs_run, some_digits_run)
 
 literal_run : (l : Literal) → AreRun (literal_text l)
-literal_run the_false = (refl, (refl, (refl, (refl, (refl, tt)))))
-literal_run _ = (refl, (refl, (refl, (refl, tt))))
+literal_run l = grind arith
 
 pub word_run : (w : List ℕ) → JsonRun w → AreRun w
-word_run w (inl (l, e)) = subst AreRun (sym e) (literal_run l)
-word_run w (inr (n, h, e)) = subst AreRun (sym e)
-    (run_append n.sign _ (minuses_run n.sign h.sign) (run_append n.whole _ (whole_run n.whole h.whole) (run_append (fraction_text n.fraction) _ (fraction_run n.fraction h.fraction) (exponent_run n.exponent h.exponent))))
+word_run w h = grind (arith, literal_run, run_append, minuses_run, whole_run, fraction_run, exponent_run)
 
 -- what begins a literal or a number is a run
 pub viable_run : (u : List ℕ) → Viable JsonRun u → AreRun u
@@ -93,8 +78,7 @@ spaces_out (b ∷ w) (h, hs) = ap (λ (s : Start). end_of s w) (ap (λ c. cond c
 -- ---- at least one byte
 
 pub some_run : (w : List ℕ) → 0 < length w → AreRun w → IsRun w
-some_run [] h k = absurd (omega (arith, h))
-some_run (b ∷ w) h (k, ks) = (k, (k, ks))
+some_run w h k = grind arith
 
 pub some_bytes : (w : List ℕ) → 0 < length w → w ≢ []
 some_bytes w h e = absurd (omega (arith, h, ap length e))

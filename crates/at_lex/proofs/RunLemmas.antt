@@ -1,11 +1,10 @@
 -- Literals and numbers: by their first byte, as runs of bytes, and their longest viable prefix.
 -- For `check_run`, `lex`, `next_item` and `take_run`.
-use Rattle.std.proofs.Common.{◌≡◌, ◌≢◌, ℕ, zero, suc, ◌+◌, ◌<◌, ◌≤◌, ◌==◌, inl, inr, List, [], ◌∷◌, ◌++◌, length, take, drop, slice_index, true, false, ◌&&◌, nat_le, IsTrue, refl, sym, ◌∙◌, ap, subst, arith, length-append, length-take, take-append-drop, add-one, eq-eqb, true≢false, not}
+use Rattle.std.proofs.Common.{◌≡◌, ◌≢◌, ℕ, zero, suc, ◌+◌, ◌<◌, ◌≤◌, ◌==◌, inl, inr, List, [], ◌∷◌, ◌++◌, length, take, drop, slice_index, true, false, refl, sym, ◌∙◌, ap, subst, arith, length-append, length-take, take-append-drop, add-one, eq-eqb, true≢false, not}
 use Rattle.std.proofs.lemmas.List.{take_all}
 use native.Mathlib.Decide.{dec_lt}
 use Rattle.at_text.specs.declared.prefixes.Taken.{Taken}
 use Rattle.at_text.specs.Prefix.{TakesLongest}
-use Rattle.at_text.specs.Texts.{is_one_of}
 use Rattle.at_fixed.specs.Numerals.{fraction_text, exponent_text, IsAtMostOneOf, IsJsonWhole, JsonNumber}
 use Rattle.at_lex.specs.Runs.{Literal, the_null, the_true, the_false, literal_text, JsonRun}
 use Rattle.at_lex.specs.Beginnings.{IsCommon}
@@ -22,9 +21,7 @@ first_letter the_null = refl
 first_letter _ = refl
 
 some_letters : (l : Literal) → 0 < length (literal_text l)
-some_letters the_null = omega arith
-some_letters the_true = omega arith
-some_letters the_false = omega arith
+some_letters l = grind arith
 
 same_letter : (l m : Literal) → letter_of l ≡ letter_of m → literal_text l ≡ literal_text m
 unfolding letter_of
@@ -36,31 +33,15 @@ same_letter the_false the_null e = absurd (omega (arith, e))
 same_letter the_false the_true e = absurd (omega (arith, e))
 same_letter _ _ e = refl
 
-minus_only : (c : ℕ) → IsTrue (is_one_of (0x2D ∷ []) c) → c ≡ 0x2D
-minus_only c h = grind (arith, h)
-
-digit_first : (b : ℕ) → IsTrue (nat_le 0x31 b && nat_le b 0x39) → b ≤ 0x39
-digit_first b h = grind (arith, h)
-
--- a number begins with a minus or a digit
-whole_first : (w v : List ℕ) → IsJsonWhole w → (0 < length (w ++ v)) × (slice_index (w ++ v) 0 ≤ 0x39)
-whole_first [] v h = absurd h
-whole_first (b ∷ w) v (inl (e, f)) = (omega arith, omega (arith, e))
-whole_first (b ∷ w) v (inr (h, hs)) = (omega arith, digit_first b h)
-
 signed_first : (s w v : List ℕ) → IsAtMostOneOf (0x2D ∷ []) s → IsJsonWhole w → slice_index (s ++ (w ++ v)) 0 ≤ 0x39
-signed_first [] w v h k = (whole_first w v k).1
-signed_first (c ∷ []) w v h k = let e = minus_only c h in omega (arith, e)
-signed_first (c ∷ d ∷ s) w v h k = absurd h
+signed_first s w v h k = grind arith
 
 number_first : (w : List ℕ) → JsonNumber w → slice_index w 0 ≤ 0x39
 number_first w (n, h, e) = subst (λ v. slice_index v 0 ≤ 0x39) (sym e) (signed_first n.sign n.whole (fraction_text n.fraction ++ exponent_text n.exponent) h.sign h.whole)
 
 no_number : (l : Literal) (w : List ℕ) → ¬ (JsonNumber (letter_of l ∷ w))
 unfolding letter_of
-no_number the_null w h = absurd (let k = number_first (0x6E ∷ w) h in omega (arith, k))
-no_number the_true w h = absurd (let k = number_first (0x74 ∷ w) h in omega (arith, k))
-no_number the_false w h = absurd (let k = number_first (0x66 ∷ w) h in omega (arith, k))
+no_number l w = grind arith
 
 -- what begins with the letter of a literal is no number
 no_number_at : (l : Literal) (w : List ℕ) → 0 < length w → slice_index w 0 ≡ letter_of l → ¬ (JsonNumber w)
@@ -73,9 +54,7 @@ only_literal l w e h (inl (m, is)) = is ∙ sym (same_letter l m (sym e ∙ (ap 
 only_literal l w e h (inr n) = absurd (no_number_at l w h e n)
 
 front_byte : (w more : List ℕ) (n : ℕ) → 0 < n → 0 < length w → slice_index (take n w ++ more) 0 ≡ slice_index w 0
-front_byte [] more n p h = absurd (omega (arith, h))
-front_byte (b ∷ w) more zero p h = absurd (omega arith)
-front_byte (b ∷ w) more (suc n) p h = refl
+front_byte w more n h k = grind arith
 
 next_suc : (v more : List ℕ) (k : ℕ) → k < length v → slice_index (take (suc k) v ++ more) k ≡ slice_index v k
 next_suc [] more k below = absurd (omega (arith, below))
@@ -132,38 +111,11 @@ pub record NoLetter (w : List ℕ) : Type 0 where
   pub no_f : slice_index w 0 ≢ 0x66
 
 no_literal : (w : List ℕ) → NoLetter w → (l : Literal) → ¬ (w ≡ literal_text l)
-no_literal w h the_null e = h.no_n (ap (λ v. slice_index v 0) e)
-no_literal w h the_true e = h.no_t (ap (λ v. slice_index v 0) e)
-no_literal w h the_false e = h.no_f (ap (λ v. slice_index v 0) e)
-
-still_none : (w more : List ℕ) (n : ℕ) → NoLetter w → 0 < n → 0 < length w → NoLetter (take n w ++ more)
-still_none w more n h p q = let e = front_byte w more n p q in record { no_n = λ f. h.no_n (sym e ∙ f); no_t = λ f. h.no_t (sym e ∙ f); no_f = λ f. h.no_f (sym e ∙ f) }
-
--- what has no letter in front of it is a literal nowhere
-front_none : (w : List ℕ) (n : ℕ) → NoLetter w → (l : Literal) → ¬ (take n w ≡ literal_text l)
-front_none [] zero h l e = no_literal [] h l e
-front_none [] (suc n) h l e = no_literal [] h l e
-front_none (b ∷ w) zero h l e = absurd (omega (arith, ap length e, some_letters l))
-front_none (b ∷ w) (suc n) h l e = no_literal (take (suc n) (b ∷ w)) (record { no_n = h.no_n; no_t = h.no_t; no_f = h.no_f }) l e
+no_literal w h l = grind arith
 
 -- the longest viable prefix of a number is that of a run
 pub number_taken : (w : List ℕ) (t : Taken) → NoLetter w → TakesLongest JsonNumber w t → TakesLongest JsonRun w t
-number_taken w t h k = record {
-  longest = record {
-    fits = k.longest.fits;
-    front = (let (more, n) = k.longest.front in (more, inr n));
-    longest = λ below (more, run). let some : 0 < length w = omega (arith, below) in by_kind below more (still_none w more (t.len + 1) h (omega arith) some) run;
-  };
-  whole = ((λ a. inr (k.whole.0 a)), λ run. word run);
-}
-  where
-    by_kind : t.len < length w → (more : List ℕ) → NoLetter (take (t.len + 1) w ++ more) → JsonRun (take (t.len + 1) w ++ more) → ⊥
-    by_kind below more none (inl (l, e)) = no_literal _ none l e
-    by_kind below more none (inr n) = k.longest.longest below (more, n)
-
-    word : JsonRun (take t.len w) → IsTrue t.whole
-    word (inl (l, e)) = absurd (front_none w t.len h l e)
-    word (inr n) = k.whole.1 n
+number_taken w t h k = grind arith
 
 -- ---- a whole text
 
@@ -217,5 +169,4 @@ pub is_literal : (l : Literal) (w : List ℕ) → slice_index w 0 ≡ letter_of 
 is_literal l w e run = only_literal l w e (has_byte l w e) run
 
 pub is_number : (w : List ℕ) → NoLetter w → JsonRun w → JsonNumber w
-is_number w h (inl (l, e)) = absurd (no_literal w h l e)
-is_number w h (inr n) = n
+is_number w h k = grind arith

@@ -1,5 +1,5 @@
 -- The units of a string by stretches of bytes are those that it has read step by step, character after character.
-use Rattle.std.proofs.Common.{◌≡◌, ℕ, zero, suc, ◌-◌, ◌<◌, ◌≤◌, ◌&&◌, List, [], ◌∷◌, ◌++◌, length, take, drop, map, flat_map, cond, if◌then◌else◌, Option, Some, None, Bool, true, false, inl, inr, refl, sym, ◌∙◌, ap, subst, arith, true≢false, append-nil, append_assoc, length-drop}
+use Rattle.std.proofs.Common.{◌≡◌, ℕ, zero, suc, ◌-◌, ◌<◌, ◌≤◌, ◌&&◌, List, [], ◌∷◌, ◌++◌, length, take, drop, map, flat_map, cond, Option, Some, None, Bool, true, false, inl, inr, refl, sym, ◌∙◌, ap, subst, arith, true≢false, append-nil, append_assoc, length-drop}
 use Rattle.std.specs.List.{find, AllByRecursion}
 use Rattle.std.specs.Str.{is_utf8, chars, IsUtf8}
 use Rattle.std.specs.Char.{len_utf8}
@@ -79,12 +79,7 @@ char_is_text : (w : List ℕ) (n : ℕ) → char_len w ≡ Some n → is_utf8 (t
 char_is_text w n e = found_some (λ m. is_utf8 (take m w)) (1 ∷ 2 ∷ 3 ∷ 4 ∷ []) n e
 
 one_of_four : (P : ℕ → Type 0) (n : ℕ) → 1 ≤ n → n ≤ 4 → AllByRecursion P (1 ∷ 2 ∷ 3 ∷ 4 ∷ []) → P n
-one_of_four P zero l m h = absurd (omega (arith, l))
-one_of_four P (suc zero) l m h = h.0
-one_of_four P (suc (suc zero)) l m h = h.1.0
-one_of_four P (suc (suc (suc zero))) l m h = h.1.1.0
-one_of_four P (suc (suc (suc (suc zero)))) l m h = h.1.1.1.0
-one_of_four P (suc (suc (suc (suc (suc n))))) l m h = absurd (omega (arith, m))
+one_of_four P n h k l = grind arith
 
 -- ---- bytes that are UTF-8
 
@@ -133,10 +128,7 @@ units_of_text (suc count) (b ∷ v) u h = go (char_len (b ∷ v)) refl (units_of
 
 -- any bytes, as those that aren't UTF-8
 pub stretch_any : (w : List ℕ) → stretch_units w ≡ broken_units (length w) w
-stretch_any w = go (is_utf8 w) refl where
-  go : (b : Bool) → is_utf8 w ≡ b → (if b then flat_map encode_utf16 (chars w) else broken_units (length w) w) ≡ broken_units (length w) w
-  go true e = sym (units_of_text (length w) w (IsUtf8-from_is_utf8 w e) (omega arith))
-  go false e = refl
+stretch_any w = grind (arith, units_of_text, IsUtf8-from_is_utf8)
 
 -- ---- step by step
 

@@ -1,6 +1,6 @@
 -- What the reader of a string does at one byte, and at bytes that stand for themselves.
 -- For `lex`, `next_item` and `take_text`.
-use Rattle.std.proofs.Common.{◌≡◌, ◌≢◌, ℕ, ◌+◌, ◌-◌, ◌<◌, ◌≤◌, List, length, take, drop, slice_index, Some, None, ◌==◌, cond, false, sym, ◌∙◌, ap, arith, add-one, take-suc, length-drop, get_or-drop}
+use Rattle.std.proofs.Common.{rules, ◌≡◌, ◌≢◌, ℕ, ◌+◌, ◌-◌, ◌<◌, ◌≤◌, List, length, take, drop, slice_index, Some, None, ◌==◌, cond, false, sym, ◌∙◌, ap, arith, add-one, take-suc, length-drop, get_or-drop}
 use Rattle.std.proofs.Math.Seq.{take-add}
 use Rattle.std.proofs.lemmas.Bool.{ne_eqb}
 use Rattle.at_text.proofs.Machine.{run, run_more}
@@ -17,8 +17,7 @@ goes_one w n s t below e f = rw (add-one n, take-suc w n 0 below) (run_more str.
 
 -- past bytes that stand for themselves
 pub goes_plain : (w : List ℕ) (n k : ℕ) → run step opening (take n w) ≡ Some inside → IsFront is_plain (take (length w - n) (drop n w)) k → run step opening (take (n + k) w) ≡ Some inside
-goes_plain w n k e front =
-    ap (run step opening) (take-add n k w) ∙ run_on step opening inside inside (take n w) (take k (drop n w)) e (plain_run (take k (drop n w)) (front_all is_plain (drop n w) k (front_behind is_plain w n k front)))
+goes_plain w n k h l = search (rules, run, take-add, run_on, plain_run, front_all, front_behind)
 
 pub within_plain : (w : List ℕ) (n k : ℕ) → n ≤ length w → IsFront is_plain (take (length w - n) (drop n w)) k → n + k ≤ length w
 within_plain w n k fits front = let f = (front_behind is_plain w n k front).fits in omega (arith, f, length-drop n w, fits)

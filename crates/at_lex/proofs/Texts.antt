@@ -1,7 +1,6 @@
 -- Strings by lexical states: how the parts of one join, and that the reader of a string goes through them.
 -- For most public calls of the crate, `copy`, `from_slice`, `lex` among them.
-use Rattle.std.proofs.Common.{◌≡◌, ◌≢◌, ℕ, ◌+◌, ◌<◌, ◌≤◌, List, [], ◌∷◌, ◌++◌, length, take, drop, slice_index, Option, Some, None, option_and_then, Bool, true, false, cond, ◌==◌, IsTrue, refl, sym, ◌∙◌, ap, subst, arith, ◌⊎◌, inl, inr, true≢false, add-one, take-suc, ◌-◌, length-drop, get_or-drop}
-use Rattle.std.proofs.lemmas.Bool.{eqb-true}
+use Rattle.std.proofs.Common.{◌≡◌, ◌≢◌, ℕ, ◌+◌, ◌<◌, ◌≤◌, List, [], ◌∷◌, ◌++◌, length, take, drop, slice_index, Option, Some, None, option_and_then, Bool, true, false, cond, ◌==◌, IsTrue, refl, sym, ◌∙◌, ap, subst, arith, ◌⊎◌, inl, inr, add-one, take-suc, ◌-◌, length-drop, get_or-drop}
 use Rattle.std.proofs.Math.Seq.{take-add}
 use Rattle.std.proofs.lemmas.Option.{none-some, same_Some, option_and_then_some}
 use Rattle.std.specs.List.{AllByRecursion}
@@ -21,13 +20,8 @@ pub end_append : (s : Start) (u v : List ℕ) → end_of s (u ++ v) ≡ end_of (
 end_append s [] v = refl
 end_append s (b ∷ u) v = end_append (after_byte s b) u v
 
-pub stays_cons : (s : Start) (b : ℕ) (u : List ℕ) → s ≢ Out → StaysInText (after_byte s b) u → StaysInText s (b ∷ u)
-stays_cons Out b u n h = absurd (n refl)
-stays_cons _ b u n h = h
-
 pub closes_cons : (s : Start) (b : ℕ) (u : List ℕ) → s ≢ Out → ClosesText (after_byte s b) u → ClosesText s (b ∷ u)
-closes_cons Out b u n h = absurd (n refl)
-closes_cons _ b u n h = h
+closes_cons s b u h k = grind arith
 
 pub stays_append : (s : Start) (u v : List ℕ) → StaysInText s u → StaysInText (end_of s u) v → StaysInText s (u ++ v)
 stays_append Out u v h k = absurd h
@@ -54,8 +48,7 @@ closes_end InEscape (b ∷ u) h = closes_end InString u h
 closes_end _ _ h = absurd h
 
 pub stays_start : (s : Start) → s ≢ Out → StaysInText s []
-stays_start Out n = absurd (n refl)
-stays_start _ n = tt
+stays_start s h = grind arith
 
 quiet_stays : (b : ℕ) → is_quiet b ≡ true → after_byte InString b ≡ InString
 quiet_stays b h = let p : (b == 0x22) ≡ false = grind (arith, h) in let q : (b == 0x5C) ≡ false = grind (arith, h) in rw (q, p) refl
@@ -69,8 +62,7 @@ quiet_text (b ∷ u) (h, hs) = let e = quiet_stays b h in let (p, q) = quiet_tex
 -- ---- the reader of a string
 
 chosen : {X : Type 0} (c : Bool) (x y z : X) → cond c x y ≡ z → ((c ≡ true) × (x ≡ z)) ⊎ ((c ≡ false) × (y ≡ z))
-chosen true x y z e = inl (refl, e)
-chosen false x y z e = inr (refl, e)
+chosen h = grind arith
 
 lexical_is : (s t : State) → ◌≡◌ {A = Option State} (Some s) (Some t) → lexical_of s ≡ lexical_of t
 lexical_is s t e = ap lexical_of (same_Some s t e)
@@ -78,34 +70,13 @@ lexical_is s t e = ap lexical_of (same_Some s t e)
 none_is : {P : Type 0} (t : State) → ◌≡◌ {A = Option State} None (Some t) → P
 none_is t e = absurd (none-some t e)
 
-hex_quiet : (b : ℕ) → is_ascii_hexdigit b ≡ true → is_quiet b ≡ true
-hex_quiet b h = grind (arith, h)
-
 digit_step : (u t : State) (b : ℕ) → lexical_of u ≡ InString → cond (is_ascii_hexdigit b) (Some u) None ≡ Some t → after_byte InString b ≡ lexical_of t
-digit_step u t b i e = elim (chosen (is_ascii_hexdigit b) (Some u) None (Some t) e) [
-  | inl q ↦ quiet_stays b (hex_quiet b q.0) ∙ (sym i ∙ lexical_is u t q.1)
-  | inr q ↦ none_is t q.1
-]
+digit_step u t b h k = grind arith
 
 pub lexical_step : (q t : State) (b : ℕ) → step q b ≡ Some t → after_byte (lexical_of q) b ≡ lexical_of t
-lexical_step opening t b e = elim (chosen (b == 0x22) (Some inside) None (Some t) e) [
-  | inl q ↦ ap (λ c. cond c InString Out) q.0 ∙ lexical_is inside t q.1
-  | inr q ↦ none_is t q.1
-]
-lexical_step inside t b e = elim (chosen (b == 0x22) (Some closed) _ (Some t) e) [
-  | inl q ↦ ap (after_byte InString) (eqb-true b 0x22 q.0) ∙ lexical_is closed t q.1
-  | inr q ↦ elim (chosen (b == 0x5C) (Some escaped) _ (Some t) q.1) [
-    | inl r ↦ ap (after_byte InString) (eqb-true b 0x5C r.0) ∙ lexical_is escaped t r.1
-    | inr r ↦ elim (chosen _ (Some inside) None (Some t) r.1) [
-      | inl k ↦ ap (λ c. cond c InEscape (cond (b == 0x22) Out InString)) r.0 ∙ (ap (λ c. cond c Out InString) q.0 ∙ lexical_is inside t k.1)
-      | inr k ↦ none_is t k.1
-    ]
-  ]
-]
-lexical_step escaped t b e = elim (chosen (b == 0x75) (Some hex4) _ (Some t) e) [
-  | inl q ↦ lexical_is hex4 t q.1
-  | inr q ↦ elim (chosen _ (Some inside) None (Some t) q.1) [ inl k ↦ lexical_is inside t k.1 | inr k ↦ none_is t k.1 ]
-]
+lexical_step opening t b e = grind arith
+lexical_step inside t b e = grind arith
+lexical_step escaped t b e = grind arith
 lexical_step hex4 t b e = digit_step hex3 t b refl e
 lexical_step hex3 t b e = digit_step hex2 t b refl e
 lexical_step hex2 t b e = digit_step hex1 t b refl e
@@ -128,39 +99,17 @@ is_within closed = false
 is_within _ = true
 
 within_next : (q t : State) (b : ℕ) → step q b ≡ Some t → is_within q ≡ true → (t ≡ closed) ⊎ (is_within t ≡ true)
-within_next q opening b e h = absurd (never q b e)
-  where
-    never : (q : State) (b : ℕ) → step q b ≡ Some opening → ⊥
-    never opening b e = elim (chosen (b == 0x22) (Some inside) None (Some opening) e) [ inl k ↦ cc | inr k ↦ none_is opening k.1 ]
-    never inside b e = elim (chosen (b == 0x22) (Some closed) _ (Some opening) e) [
-      | inl k ↦ cc
-      | inr k ↦ elim (chosen (b == 0x5C) (Some escaped) _ (Some opening) k.1) [ inl j ↦ cc | inr j ↦ elim (chosen _ (Some inside) None (Some opening) j.1) [ inl i ↦ cc | inr i ↦ none_is opening i.1 ] ]
-    ]
-    never escaped b e = elim (chosen (b == 0x75) (Some hex4) _ (Some opening) e) [ inl k ↦ cc | inr k ↦ elim (chosen _ (Some inside) None (Some opening) k.1) [ inl j ↦ cc | inr j ↦ none_is opening j.1 ] ]
-    never hex4 b e = elim (chosen _ (Some hex3) None (Some opening) e) [ inl k ↦ cc | inr k ↦ none_is opening k.1 ]
-    never hex3 b e = elim (chosen _ (Some hex2) None (Some opening) e) [ inl k ↦ cc | inr k ↦ none_is opening k.1 ]
-    never hex2 b e = elim (chosen _ (Some hex1) None (Some opening) e) [ inl k ↦ cc | inr k ↦ none_is opening k.1 ]
-    never hex1 b e = elim (chosen _ (Some inside) None (Some opening) e) [ inl k ↦ cc | inr k ↦ none_is opening k.1 ]
-    never closed b e = none_is opening e
-within_next q closed b e h = inl refl
-within_next q _ b e h = inr refl
+within_next q t b h k = grind arith
 
 pub within_no_out : (q : State) → is_within q ≡ true → lexical_of q ≢ Out
-within_no_out inside h = λ e. cc
-within_no_out escaped h = λ e. cc
-within_no_out hex4 h = λ e. cc
-within_no_out hex3 h = λ e. cc
-within_no_out hex2 h = λ e. cc
-within_no_out hex1 h = λ e. cc
-within_no_out _ h = absurd (true≢false (sym h))
+within_no_out q h = grind arith
 
 -- the reader of a string closes it, or stays in it
 abbrev pub Reaches : State → Start → List ℕ → Type 0
 Reaches t s u = ((t ≡ closed) × ClosesText s u) ⊎ ((is_within t ≡ true) × StaysInText s u)
 
 reaches_cons : (t : State) (s : Start) (b : ℕ) (u : List ℕ) → s ≢ Out → Reaches t (after_byte s b) u → Reaches t s (b ∷ u)
-reaches_cons t s b u n (inl (e, h)) = inl (e, closes_cons s b u n h)
-reaches_cons t s b u n (inr (e, h)) = inr (e, stays_cons s b u n h)
+reaches_cons t s b u h k = grind arith
 
 reaches : (q t : State) (u : List ℕ) → is_within q ≡ true → run step q u ≡ Some t → Reaches t (lexical_of q) u
 reaches q t [] h e = inr (subst (λ (x : State). is_within x ≡ true) (same_Some q t e) h, stays_start (lexical_of q) (within_no_out q h))
@@ -198,9 +147,7 @@ one_more : (w : List ℕ) (n : ℕ) → n < length w → take (n + 1) w ≡ take
 one_more w n h = rw (add-one n, take-suc w n 0 h) refl
 
 pub string_left : (s : Start) → s ≢ Out → s ≢ InEscape → s ≡ InString
-string_left Out n m = absurd (n refl)
-string_left InString n m = refl
-string_left InEscape n m = absurd (m refl)
+string_left s h k = grind arith
 
 abbrev pub IsIn : Start → List ℕ → Start → Type 0
 IsIn s u t = StaysInText s u × (t ≡ end_of s u)
@@ -223,10 +170,7 @@ text_slashed s w n h k e = let P : List ℕ → Type 0 = λ v. IsIn s v InEscape
     subst P (sym all) (in_more s InString (take n w) (0x5C ∷ []) k tt)
 
 pub text_closed : (s : Start) (w : List ℕ) (n : ℕ) → n < length w → IsIn s (take n w) InString → slice_index w n ≡ 0x22 → ClosesText s (take (n + 1) w)
-text_closed s w n h (k, i) e = let P : List ℕ → Type 0 = λ v. ClosesText s v in
-    let all : take (n + 1) w ≡ take n w ++ 0x22 ∷ [] = one_more w n h ∙ ap (λ b. take n w ++ b ∷ []) e in
-    let Q : Start → Type 0 = λ t. ClosesText t (0x22 ∷ []) in
-    subst P (sym all) (stays_closes s (take n w) (0x22 ∷ []) k (subst Q i tt))
+text_closed s w n h k l = grind (arith, one_more, stays_closes)
 
 pub loud_byte : (b : ℕ) → is_quiet b ≡ false → b ≢ 0x22 → b ≡ 0x5C
 loud_byte b h n = grind (arith, h, n)

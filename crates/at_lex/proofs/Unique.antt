@@ -1,8 +1,7 @@
 -- A piece has one list of items from a state: its bytes can be split in one way.
 -- For most public calls of the crate, `copy`, `from_slice`, `lex` among them.
-use Rattle.std.proofs.Common.{◌≡◌, ◌≢◌, ℕ, ◌+◌, ◌⊎◌, inl, inr, List, [], ◌∷◌, ◌++◌, length, Bool, true, false, cond, ◌==◌, ◌||◌, not, IsTrue, refl, sym, ◌∙◌, ap, subst, arith, true≢false, append-nil}
-use Rattle.std.specs.List.{AllByRecursion}
-use Rattle.at_text.specs.Texts.{is_space, is_run, is_one_of}
+use Rattle.std.proofs.Common.{◌≡◌, ◌≢◌, ℕ, ◌+◌, inl, inr, List, [], ◌∷◌, ◌++◌, length, Bool, true, false, cond, ◌==◌, not, IsTrue, refl, sym, ◌∙◌, ap, subst, arith, true≢false, append-nil}
+use Rattle.at_text.specs.Texts.{is_run, is_one_of}
 use Rattle.at_text.proofs.Machine.{longest_unique}
 use Rattle.at_lex.specs.declared.tokens.Start.{Start}
 use Rattle.at_lex.specs.declared.tokens.Start.TheVariants.{Out, InString, InEscape}
@@ -20,7 +19,7 @@ use Rattle.at_lex.specs.Stream.{Left, IsBegun, GivesItem}
 use Rattle.at_lex.specs.declared.tokens.Lexed.{Lexed}
 use Rattle.at_lex.specs.Strings.{JsonString}
 use Rattle.at_lex.specs.Runs.{JsonRun}
-use Rattle.at_lex.specs.Spans.{after_byte, end_of, ClosesText, StaysInText, AreSpaces, AreRun, EndsRun, IsText, IsRefused, begins_space, begins_run, IsKind, IsToken, IsPend, AreTokens, IsLead, left_behind, end_behind, HasItems}
+use Rattle.at_lex.specs.Spans.{after_byte, ClosesText, StaysInText, AreSpaces, AreRun, EndsRun, IsText, IsRefused, begins_space, begins_run, IsKind, IsToken, IsPend, AreTokens, IsLead, left_behind, HasItems}
 
 -- ---- fronts
 
@@ -31,8 +30,7 @@ pub tail_same : (b c : ℕ) (v w : List ℕ) → b ∷ v ≡ c ∷ w → v ≡ w
 tail_same b c v w e = cc
 
 pub not-false : (b : Bool) → IsTrue (not b) → b ≡ false
-not-false false h = refl
-not-false true h = absurd (true≢false (sym h))
+not-false b h = grind arith
 
 abbrev Same : (u v x y : List ℕ) → Type 0
 Same u v x y = (u ≡ v) × (x ≡ y)
@@ -95,17 +93,6 @@ kind_shape at v r Run (h, k) = bare h
 kind_shape at v r (Broken p) (n, e, inl (h, k, l)) = quoted h
 kind_shape at v r (Broken p) (n, e, inr (h, k)) = bare h
 
-one_of_cons : (x b : ℕ) (xs : List ℕ) → is_one_of (x ∷ xs) b ≡ true → (b ≡ x) ⊎ (is_one_of xs b ≡ true)
-one_of_cons x b xs h = by_test (x == b) refl h
-  where
-    by_test : (p : Bool) → (x == b) ≡ p → (p || is_one_of xs b) ≡ true → (b ≡ x) ⊎ (is_one_of xs b ≡ true)
-    by_test true e k = inl (grind (arith, e))
-    by_test false e k = inr k
-
-one_of_all : (P : ℕ → Type 0) (xs : List ℕ) (b : ℕ) → AllByRecursion P xs → is_one_of xs b ≡ true → P b
-one_of_all P [] b h k = absurd (true≢false (sym k))
-one_of_all P (x ∷ xs) b (h, hs) k = elim (one_of_cons x b xs k) [ inl e ↦ subst P (sym e) h | inr e ↦ one_of_all P xs b hs e ]
-
 mark_no_run : (b : ℕ) → is_mark b ≡ true → is_run b ≡ true → ⊥
 unfolding is_mark
 mark_no_run b h k = absurd (grind (arith, h, k))
@@ -115,8 +102,7 @@ first_is p [] = false
 first_is p (b ∷ w) = p b
 
 run_first : (v r : List ℕ) → EndsRun v r → first_is is_run (v ++ r) ≡ true
-run_first [] r ((h, hs), k, l) = absurd (true≢false (sym h))
-run_first (b ∷ v) r ((h, hs), k, l) = h
+run_first v r h = grind arith
 
 mark_first : (v r : List ℕ) (b : ℕ) → is_mark b ≡ true → v ≡ b ∷ [] → v ++ r ≡ b ∷ r
 mark_first v r b h e = ap (λ z. z ++ r) e
@@ -206,31 +192,10 @@ known_one at v r k l (bad_run n h i e) (bad_run x j m f) = e ∙ (ap Broken (ref
 
 shape_space : (v r : List ℕ) → Shape v r → begins_space (v ++ r) ≡ false
 unfolding is_mark
-shape_space v r (marked b h e) = ap begins_space (mark_first v r b h e) ∙ mark_no_space b h
-  where
-    mark_no_space : (c : ℕ) → is_mark c ≡ true → is_space c ≡ false
-    mark_no_space c k = one_of_all (λ x. is_space x ≡ false) (0x7B ∷ 0x7D ∷ 0x5B ∷ 0x5D ∷ 0x2C ∷ 0x3A ∷ []) c (refl, (refl, (refl, (refl, (refl, (refl, tt)))))) k
-shape_space v r (quoted (u, e, h)) = ap (λ z. begins_space (z ++ r)) e
-shape_space v r (bare k) = run_spaces (v ++ r) (run_first v r k)
-  where
-    run_no_space : (c : ℕ) → is_run c ≡ true → is_space c ≡ false
-    run_no_space c h = grind (arith, h)
-
-    run_spaces : (w : List ℕ) → first_is is_run w ≡ true → begins_space w ≡ false
-    run_spaces [] h = refl
-    run_spaces (c ∷ w) h = run_no_space c h
+shape_space v r h = grind arith
 
 pend_space : (at : ℕ) (v : List ℕ) (p : Pend) → IsPend at v p → begins_space v ≡ false
-pend_space at v pends.Nothing e = ap begins_space e
-pend_space at v (pends.Run i) (e, (h, hs)) = run_spaces v h
-  where
-    run_no_space : (c : ℕ) → is_run c ≡ true → is_space c ≡ false
-    run_no_space c k = grind (arith, k)
-
-    run_spaces : (w : List ℕ) → begins_run w ≡ true → begins_space w ≡ false
-    run_spaces [] k = refl
-    run_spaces (c ∷ w) k = run_no_space c k
-pend_space at v (pends.Text i) (e, u, f, h) = ap begins_space f
+pend_space at v p h = grind arith
 
 some_first : (w : List ℕ) → begins_run w ≡ true → w ≢ []
 some_first w h e = true≢false (sym h ∙ ap begins_run e)
@@ -249,23 +214,12 @@ pend_no_token at v r w (pends.Text i) (quoted (u, e, h)) (f, x, j, k) g = closes
 pend_no_token at v r w (pends.Text i) (bare h) (f, u, j, k) g = true≢false (sym (run_first v r h) ∙ ap (first_is is_run) (g ∙ j))
 
 pends_one : (at : ℕ) (v : List ℕ) (p q : Pend) → IsPend at v p → IsPend at v q → p ≡ q
-pends_one at v pends.Nothing pends.Nothing h k = refl
-pends_one at v pends.Nothing (pends.Run i) h (e, (k, ks)) = absurd (some_first v k h)
-pends_one at v pends.Nothing (pends.Text i) h (e, u, f, k) = absurd (omega (arith, ap length (sym h ∙ f)))
-pends_one at v (pends.Run i) pends.Nothing (e, (h, hs)) k = absurd (some_first v h k)
-pends_one at v (pends.Run i) (pends.Run j) (e, h) (f, k) = ap pends.Run (e ∙ sym f)
-pends_one at v (pends.Run i) (pends.Text j) (e, (h, hs)) (f, u, g, k) = absurd (true≢false (sym h ∙ ap begins_run g))
-pends_one at v (pends.Text i) pends.Nothing (e, u, f, h) k = absurd (omega (arith, ap length (sym k ∙ f)))
-pends_one at v (pends.Text i) (pends.Run j) (e, u, f, h) (g, (k, ks)) = absurd (true≢false (sym k ∙ ap begins_run f))
-pends_one at v (pends.Text i) (pends.Text j) (e, u, f, h) (g, x, m, k) = ap pends.Text (e ∙ sym g)
+pends_one at v p q h k = grind arith
 
 -- ---- lists of items
 
 token_one : (at : ℕ) (v r : List ℕ) (t u : Token) → IsToken at v r t → IsToken at v r u → t ≡ u
-token_one at v r t u (e, f, h) (g, i, k) = same_token t.kind u.kind t.from u.from t.to u.to (known_one at v r t.kind u.kind (kind_known at v r t.kind h) (kind_known at v r u.kind k)) (e ∙ sym g) (f ∙ sym i)
-  where
-    same_token : (k l : TokenKind) (a b x y : ℕ) → k ≡ l → a ≡ b → x ≡ y → ◌≡◌ {A = Token} (record { kind = k; from = a; to = x }) (record { kind = l; from = b; to = y })
-    same_token k l a b x y p q r = cc
+token_one at v r t u h k = grind (arith, known_one, kind_known)
 
 abbrev SameItems : (ts us : List Token) (p q : Pend) → Type 0
 SameItems ts us p q = (ts ≡ us) × (p ≡ q)
@@ -300,25 +254,10 @@ tokens_one at w (t ∷ ts) (u ∷ us) p q (a, v, r, e, h, i, z) (b, x, s, f, k, 
 -- ---- leads
 
 out_lead : (at : ℕ) (u : List ℕ) (l : Lead) (r : List ℕ) → IsLead Out at u l r → AreRun u × (begins_run r ≡ false)
-out_lead at u leads.Nothing r (e, h) = (subst AreRun (sym e) tt, not-false _ h)
-out_lead at u (leads.RunEnds i) r (e, ((h, hs), k, l)) = (hs, not-false _ l)
-out_lead at u leads.AllRun r ((h, hs), e) = (hs, ap begins_run e)
-out_lead at u (leads.TextEnds i) r h = absurd h
-out_lead at u leads.AllText r h = absurd h
+out_lead at u l r h = grind arith
 
 out_leads : (at : ℕ) (u r : List ℕ) (k l : Lead) → IsLead Out at u k r → IsLead Out at u l r → k ≡ l
-out_leads at u r leads.Nothing (leads.RunEnds i) (e, h) (f, ((k, ks), m, n)) = absurd (some_first u k e)
-out_leads at u r leads.Nothing leads.AllRun (e, h) ((k, ks), m) = absurd (some_first u k e)
-out_leads at u r (leads.RunEnds i) leads.Nothing (f, ((k, ks), m, n)) (e, h) = absurd (some_first u k e)
-out_leads at u r (leads.RunEnds i) (leads.RunEnds j) (e, h) (f, k) = ap leads.RunEnds (e ∙ sym f)
-out_leads at u r (leads.RunEnds i) leads.AllRun (e, (h, m, n)) (k, f) = absurd (m f)
-out_leads at u r leads.AllRun leads.Nothing ((k, ks), m) (e, h) = absurd (some_first u k e)
-out_leads at u r leads.AllRun (leads.RunEnds i) (k, f) (e, (h, m, n)) = absurd (m f)
-out_leads at u r (leads.TextEnds i) l h k = absurd h
-out_leads at u r leads.AllText l h k = absurd h
-out_leads at u r k (leads.TextEnds i) h j = absurd j
-out_leads at u r k leads.AllText h j = absurd j
-out_leads at u r _ _ h k = refl
+out_leads at u r k l h m = grind arith
 
 -- in a string there are two leads
 data InTextLead (s : Start) (at : ℕ) (u r : List ℕ) : Lead → Type 0 where
@@ -347,24 +286,11 @@ text_leads s at u v x y k l (all_there g m n) (all_there e f h) z =
     (sym (append-nil u) ∙ (ap (λ c. u ++ c) (sym n) ∙ (z ∙ (ap (λ c. v ++ c) h ∙ append-nil v))), n ∙ sym h, g ∙ sym e)
 
 leads_one : (s : Start) (at : ℕ) (u v x y : List ℕ) (k l : Lead) → IsLead s at u k x → IsLead s at v l y → u ++ x ≡ v ++ y → SameLead u v x y k l
-leads_one Out at u v x y k l h i z =
-    let (p, q) = out_lead at u k x h in let (m, n) = out_lead at v l y i in
-    let (e, f) = runs_one u v x y p m q n z in
-    (e, f, out_leads at u x k l h (subst (λ c. IsLead Out at c l x) (sym e) (subst (λ c. IsLead Out at v l c) (sym f) i)))
-leads_one InString at u v x y k l h i z = text_leads InString at u v x y k l (text_lead InString at u k x (λ e. cc) h) (text_lead InString at v l y (λ e. cc) i) z
-leads_one InEscape at u v x y k l h i z = text_leads InEscape at u v x y k l (text_lead InEscape at u k x (λ e. cc) h) (text_lead InEscape at v l y (λ e. cc) i) z
+leads_one s at u v x y k l h m n = grind (arith, out_lead, runs_one, out_leads, text_leads, text_lead)
 
 -- a piece has one list of items
 pub items_one : (s : Start) (at : ℕ) (w : List ℕ) (a b : Lexed) → HasItems s at w a → HasItems s at w b → a ≡ b
-items_one s at w a b h k =
-    let (p, q, lead) = leads_one s at h.first k.first h.others k.others a.lead b.lead h.lead k.lead (sym h.split ∙ k.split) in
-    let P : List ℕ → List ℕ → Type 0 = λ u r. AreTokens (at + length u) r b.tokens b.pend in
-    let (tokens, pend) = tokens_one (at + length h.first) h.others a.tokens b.tokens a.pend b.pend h.tokens (subst (λ u. P u h.others) (sym p) (subst (P k.first) (sym q) k.tokens)) in
-    same_lexed a.lead b.lead a.tokens b.tokens a.pend b.pend a.end b.end lead tokens pend (h.end ∙ (ap (λ (ts : List Token). end_behind ts (end_of s w)) tokens ∙ sym k.end))
-  where
-    same_lexed : (k l : Lead) (ts us : List Token) (p q : Pend) (x y : Start) → k ≡ l → ts ≡ us → p ≡ q → x ≡ y
-        → ◌≡◌ {A = Lexed} (record { lead = k; tokens = ts; pend = p; end = x }) (record { lead = l; tokens = us; pend = q; end = y })
-    same_lexed k l ts us p q x y e f g i = cc
+items_one s at w a b h k = grind (arith, leads_one, tokens_one)
 
 -- ---- the steps of a reader
 
@@ -372,9 +298,7 @@ same_left : (a b : ℕ) (r s : List ℕ) (x y : Start) → a ≡ b → r ≡ s �
 same_left a b r s x y e f g = cc
 
 pub begun_one : (s : Start) (at : ℕ) (w : List ℕ) (k l : Lead) (m n : Left) → IsBegun s at w k m → IsBegun s at w l n → (k ≡ l) × (m ≡ n)
-begun_one s at w k l m n (u, e, lead, place, state) (v, f, other, there, last) =
-    let (p, q, same) = leads_one s at u v m.rest n.rest k l lead other (sym e ∙ f) in
-    (same, same_left m.at n.at m.rest n.rest m.state n.state (place ∙ (ap (λ c. at + length c) p ∙ sym there)) q (state ∙ (ap (end_of s) p ∙ sym last)))
+begun_one s at w k l m n h p = grind (arith, leads_one, same_left)
 
 pub gives_one : (old : Left) (i j : Item) (m n : Left) → GivesItem old i m → GivesItem old j n → (i ≡ j) × (m ≡ n)
 gives_one old (Whole t) (Whole u) m n (a, v, r, out, e, h, i, z) (b, x, s, outer, f, k, j, y) =

@@ -4,7 +4,6 @@ use Rattle.std.proofs.Common.{◌≡◌, ◌≢◌, ℕ, zero, suc, ◌+◌, ◌
 use Rattle.std.specs.List.{list_any}
 use Rattle.std.specs.Str.{is_utf8, chars, IsAscii}
 use Rattle.std.proofs.lemmas.Str.{is_utf8-from_IsUtf8, IsUtf8-from_ascii, chars-IsAscii}
-use Rattle.std.specs.Char.{is_ascii_hexdigit}
 use Rattle.std.specs.Char.Escape.{encode_utf16}
 use Rattle.at_lex.specs.Strings.{Character, plain, escape, unit, escapes, is_plain, AreCharacters, character_text, string_text, char_len, escape_unit, hex_unit, units_of}
 use Rattle.at_lex.specs.Fronts.{IsFront}
@@ -41,8 +40,7 @@ hex_cases : (cs : List Character) → AreCharacters cs → slice_index (rest_tex
 hex_cases [] h e f = absurd (omega (arith, e))
 hex_cases (plain b ∷ cs) (h, hs) e f = absurd (plain_no_slash b h e)
 hex_cases (escape l ∷ cs) (h, hs) e f = absurd (escape_no_u l h f)
-hex_cases (unit a b c d ∷ cs) (h, hs) e f = let (p, q, r, s) = all_four (is_ascii_hexdigit a) (is_ascii_hexdigit b) (is_ascii_hexdigit c) (is_ascii_hexdigit d) h in
-    (cs, (hs, refl), refl, (let k = some_rest cs in omega (arith, k)), record { long = (let k = some_rest cs in omega (arith, k)); a = p; b = q; c = r; d = s })
+hex_cases (unit a b c d ∷ cs) (h, hs) e f = grind (arith, all_four, some_rest)
 
 hex_at : (cs : List Character) (w : List ℕ) → Content cs w → slice_index w 0 ≡ 0x5C → slice_index w 1 ≡ 0x75 → Hex cs w
 hex_at cs w (h, e) p q = let P : List ℕ → Type 0 = λ v. slice_index v 0 ≡ 0x5C → slice_index v 1 ≡ 0x75 → Hex cs v in subst P (sym e) (hex_cases cs h) p q
@@ -93,8 +91,7 @@ pub first_at : (cs : List Character) (w : List ℕ) → Content cs w → 1 < len
 first_at cs w (h, e) k n = let P : List ℕ → Type 0 = λ v. 1 < length v → slice_index v 0 ≢ 0x5C → First cs v in subst P (sym e) (first_cases cs h) k n
 
 one_ascii : (b : ℕ) → b < 128 → IsAscii (b ∷ [])
-one_ascii b h zero = h
-one_ascii b h (suc i) = omega arith
+one_ascii b h = grind arith
 
 ascii_is_text : (b : ℕ) → b < 128 → is_utf8 (b ∷ []) ≡ true
 ascii_is_text b h = is_utf8-from_IsUtf8 (b ∷ []) (IsUtf8-from_ascii (b ∷ []) (one_ascii b h))
@@ -160,11 +157,7 @@ shorter_ahead (unit a b c d ∷ cs) = omega arith
 
 -- bytes that belong to a character that has its units already give none
 skipped : (p j : ℕ) (cs : List Character) → j ≡ min p (length (bytes_ahead cs)) → units_after p cs ≡ units_after 0 (drop j cs)
-skipped p zero [] e = no_units p
-  where
-    no_units : (q : ℕ) → units_after q [] ≡ []
-    no_units zero = refl
-    no_units (suc q) = refl
+skipped p zero [] e = grind arith
 skipped p (suc j) [] e = absurd (omega (arith, e))
 skipped zero zero (plain b ∷ cs) e = refl
 skipped zero (suc j) (plain b ∷ cs) e = absurd (omega (arith, e))
@@ -274,8 +267,7 @@ taken_min (suc n) (b ∷ w) = ap (λ k. take k (b ∷ w)) (same_min n (length w)
     same_min x y = omega arith
 
 pub no_text : (b : Bool) → (b ≡ true → ⊥) → b ≡ false
-no_text true h = absurd (h refl)
-no_text false h = refl
+no_text b h = grind arith
 
 pub char_none : (w : List ℕ) → ((k : ℕ) → 0 < k → k < 5 → is_utf8 (take k w) ≡ false) → char_len w ≡ None
 char_none w h = rw (h 1 (omega arith) (omega arith), h 2 (omega arith) (omega arith), h 3 (omega arith) (omega arith), h 4 (omega arith) (omega arith)) refl

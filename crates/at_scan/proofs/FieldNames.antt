@@ -1,7 +1,6 @@
 -- Which member of an object a name is: each name is that of one member at most. For `field_named` and what reads members.
-use Rattle.std.proofs.Common.{◌≡◌, ℕ, Bool, true, false, bytes_eq, codes, List, refl, sym, ◌∙◌, ap}
+use Rattle.std.proofs.Common.{arith, ◌≡◌, ℕ, Bool, true, false, bytes_eq, codes, List, refl, ◌∙◌, ap}
 use Rattle.std.proofs.lemmas.Slice.Eq.{bytes_eq-Decides}
-use Rattle.std.proofs.lemmas.Bool.{true≢false}
 use Rattle.at_scan.specs.Fields.{first_field, field_of, is_no_field, is_kind, is_coordinates, is_geometry, is_properties, is_features, is_geometries}
 
 -- a name that is one text is no other
@@ -9,58 +8,22 @@ no_other_name : (name a b : List ℕ) → bytes_eq a b ≡ false → bytes_eq na
 no_other_name name a b e h = ap (λ z. bytes_eq z b) ((bytes_eq-Decides name a).0 h) ∙ e
 
 kind_first : (a b c d e f : Bool) → is_kind (first_field a b c d e f) ≡ a
-kind_first true b c d e f = refl
-kind_first false true c d e f = refl
-kind_first false false true d e f = refl
-kind_first false false false true e f = refl
-kind_first false false false false true f = refl
-kind_first false false false false false true = refl
-kind_first false false false false false false = refl
+kind_first a b c d e f = grind arith
 
 coordinates_first : (a b c d e f : Bool) → (a ≡ true → b ≡ false) → is_coordinates (first_field a b c d e f) ≡ b
-coordinates_first true b c d e f h0 = sym (h0 refl)
-coordinates_first false true c d e f h0 = refl
-coordinates_first false false true d e f h0 = refl
-coordinates_first false false false true e f h0 = refl
-coordinates_first false false false false true f h0 = refl
-coordinates_first false false false false false true h0 = refl
-coordinates_first false false false false false false h0 = refl
+coordinates_first a b c d e f h = grind arith
 
 geometry_first : (a b c d e f : Bool) → (a ≡ true → c ≡ false) → (b ≡ true → c ≡ false) → is_geometry (first_field a b c d e f) ≡ c
-geometry_first true b c d e f h0 h1 = sym (h0 refl)
-geometry_first false true c d e f h0 h1 = sym (h1 refl)
-geometry_first false false true d e f h0 h1 = refl
-geometry_first false false false true e f h0 h1 = refl
-geometry_first false false false false true f h0 h1 = refl
-geometry_first false false false false false true h0 h1 = refl
-geometry_first false false false false false false h0 h1 = refl
+geometry_first a b c d e f h k = grind arith
 
 properties_first : (a b c d e f : Bool) → (a ≡ true → d ≡ false) → (b ≡ true → d ≡ false) → (c ≡ true → d ≡ false) → is_properties (first_field a b c d e f) ≡ d
-properties_first true b c d e f h0 h1 h2 = sym (h0 refl)
-properties_first false true c d e f h0 h1 h2 = sym (h1 refl)
-properties_first false false true d e f h0 h1 h2 = sym (h2 refl)
-properties_first false false false true e f h0 h1 h2 = refl
-properties_first false false false false true f h0 h1 h2 = refl
-properties_first false false false false false true h0 h1 h2 = refl
-properties_first false false false false false false h0 h1 h2 = refl
+properties_first a b c d e f h k l = grind arith
 
 features_first : (a b c d e f : Bool) → (a ≡ true → e ≡ false) → (b ≡ true → e ≡ false) → (c ≡ true → e ≡ false) → (d ≡ true → e ≡ false) → is_features (first_field a b c d e f) ≡ e
-features_first true b c d e f h0 h1 h2 h3 = sym (h0 refl)
-features_first false true c d e f h0 h1 h2 h3 = sym (h1 refl)
-features_first false false true d e f h0 h1 h2 h3 = sym (h2 refl)
-features_first false false false true e f h0 h1 h2 h3 = sym (h3 refl)
-features_first false false false false true f h0 h1 h2 h3 = refl
-features_first false false false false false true h0 h1 h2 h3 = refl
-features_first false false false false false false h0 h1 h2 h3 = refl
+features_first a b c d e f h k l m = grind arith
 
 geometries_first : (a b c d e f : Bool) → (a ≡ true → f ≡ false) → (b ≡ true → f ≡ false) → (c ≡ true → f ≡ false) → (d ≡ true → f ≡ false) → (e ≡ true → f ≡ false) → is_geometries (first_field a b c d e f) ≡ f
-geometries_first true b c d e f h0 h1 h2 h3 h4 = sym (h0 refl)
-geometries_first false true c d e f h0 h1 h2 h3 h4 = sym (h1 refl)
-geometries_first false false true d e f h0 h1 h2 h3 h4 = sym (h2 refl)
-geometries_first false false false true e f h0 h1 h2 h3 h4 = sym (h3 refl)
-geometries_first false false false false true f h0 h1 h2 h3 h4 = sym (h4 refl)
-geometries_first false false false false false true h0 h1 h2 h3 h4 = refl
-geometries_first false false false false false false h0 h1 h2 h3 h4 = refl
+geometries_first a b c d e f h k l m n = grind arith
 
 pub kind_field : (name : List ℕ) → is_kind (field_of name) ≡ bytes_eq name (codes "type")
 kind_field name = kind_first (bytes_eq name (codes "type")) (bytes_eq name (codes "coordinates")) (bytes_eq name (codes "geometry")) (bytes_eq name (codes "properties")) (bytes_eq name (codes "features")) (bytes_eq name (codes "geometries"))
@@ -82,7 +45,4 @@ geometries_field name = geometries_first (bytes_eq name (codes "type")) (bytes_e
 
 -- a name for which no kind asks is no name for which one does
 pub unlike_field : (name other : List ℕ) → is_no_field (field_of name) ≡ true → is_no_field (field_of other) ≡ false → bytes_eq name other ≡ false
-unlike_field name other e f = go (bytes_eq name other) refl where
-  go : (b : Bool) → bytes_eq name other ≡ b → b ≡ false
-  go false q = refl
-  go true q = absurd (true≢false (sym e ∙ (ap (λ z. is_no_field (field_of z)) ((bytes_eq-Decides name other).0 q) ∙ f)))
+unlike_field name other h k = grind (arith, bytes_eq-Decides)

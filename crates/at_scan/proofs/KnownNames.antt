@@ -1,6 +1,5 @@
 -- Words that are looked at sixteen bytes together, and the names of members that they are. For `field_name`, `next_name` and `known_kind`.
-use Rattle.std.proofs.Common.{◌≡◌, ℕ, ◌+◌, ◌-◌, ◌<◌, ◌≤◌, ◌%◌, ◌^◌, Bool, true, false, not, cond, eqb, List, map, take, drop, length, get_or, slice_index, refl, sym, ◌∙◌, ap, subst, arith}
-use Rattle.std.proofs.lemmas.Bool.{eqb-true, true≢false}
+use Rattle.std.proofs.Common.{◌≡◌, ℕ, ◌+◌, ◌-◌, ◌<◌, ◌≤◌, ◌%◌, ◌^◌, Bool, true, not, cond, eqb, List, map, take, drop, length, get_or, slice_index, refl, sym, ◌∙◌, ap, subst, arith}
 use Rattle.std.proofs.lemmas.Grind.{same_number_lists}
 use Rattle.std.proofs.lemmas.List.Folds.{list_all_at}
 use Rattle.std.specs.List.{list_all}
@@ -33,11 +32,7 @@ abbrev pub differs : ℕ → ℕ → ℕ
 differs a b = cond (not (eqb a b)) 255 0
 
 no_mark : (a b : ℕ) → not (top 7 (differs a b)) ≡ true → a ≡ b
-no_mark a b h = by_test (eqb a b) refl h
-  where
-    by_test : (c : Bool) → eqb a b ≡ c → not (top 7 (cond (not c) 255 0)) ≡ true → a ≡ b
-    by_test true e k = eqb-true a b e
-    by_test false e k = cc
+no_mark a b h = grind arith
 
 pub begins_alike : (w : List ℕ) (at : ℕ) (word : List ℕ) (r : ℕ) → at + 16 ≤ length w → 16 ≤ length word → r ≡ first_set (mask_l (map (top 7) (zip2 differs (chunk at 16 w) (chunk 0 16 word))) % 2 ^ 64) 16 → BeginsAlike w at word r
 begins_alike w at word r room long found = record {
@@ -77,11 +72,7 @@ chunk_at : (xs : List ℕ) (i n k : ℕ) → k < n → get_or (chunk i n xs) k 0
 chunk_at xs i n k h = get_or-take n (drop i xs) k 0 h ∙ get_or-drop i xs k 0
 
 all_at : (p : ℕ → Bool) (xs : List ℕ) (i : ℕ) → i < length xs → list_all p xs ≡ true → p (get_or xs i 0) ≡ true
-all_at p xs i l h = by_test (p (get_or xs i 0)) refl
-  where
-    by_test : (b : Bool) → p (get_or xs i 0) ≡ b → p (get_or xs i 0) ≡ true
-    by_test true e = e
-    by_test false e = absurd (true≢false (sym h ∙ list_all_at p xs i 0 l e))
+all_at p xs i h k = grind (arith, list_all_at)
 
 module _ (w : List ℕ) (at : ℕ) (word : List ℕ) (m n : ℕ) (h : IsQuoted word m) (s : StandsWord w at word n) (more : m < n) where
   abbrev inner : List ℕ
@@ -145,14 +136,7 @@ module _ (w : List ℕ) (at : ℕ) (word : List ℕ) (n : ℕ) (s : StandsWord w
 
 -- where as many bytes are those of a name
 pub stands_of : (w : List ℕ) (b : NamePlace) (first : ℕ) → IsPlainName w b → first + (b.end - b.first) ≤ length w → take (first + (b.end - b.first) - first) (drop first w) ≡ take (b.end - b.first) (drop b.first w) → StandsWord w first (from_name w b) (b.end - b.first)
-stands_of w b first k within e =
-    let n : ℕ = b.end - b.first in
-    let behind : n ≡ first + n - first = omega arith in
-    record {
-      within = within;
-      same = λ j l. sym (chunk_at w first n j l) ∙ (ap (λ xs. get_or xs j 0) (ap (λ i. take i (drop first w)) behind ∙ e)
-          ∙ (chunk_at w b.first n j l ∙ sym (chunk_at w b.first (length w - b.first) j (omega (arith, l, k.order, k.within)))));
-    }
+stands_of w b first h k l = grind (arith, chunk_at)
 
 -- where the bytes of a name stand, that name stands
 pub text_again : (w : List ℕ) (b : NamePlace) (first : ℕ) (word : List ℕ) → IsPlainName w b → word ≡ chunk b.first (length w - b.first) w → StandsWord w first word (b.end - b.first) → IsSimpleTextAt w first (first + (b.end - b.first))

@@ -1,5 +1,5 @@
 -- One more name behind those of members for which no kind asks.
-use Rattle.std.proofs.Common.{◌≡◌, ℕ, zero, suc, ◌+◌, ◌-◌, ◌<◌, ◌≤◌, Bool, true, false, ◌||◌, bytes_eq, List, [], ◌∷◌, ◌++◌, All, length, take, get_or, refl, sym, ◌∙◌, ap, subst, arith}
+use Rattle.std.proofs.Common.{◌≡◌, ℕ, zero, suc, ◌+◌, ◌-◌, ◌<◌, ◌≤◌, false, ◌||◌, bytes_eq, List, [], ◌∷◌, ◌++◌, All, length, take, get_or, sym, ◌∙◌, ap, subst, arith}
 use Rattle.std.proofs.Math.Bool.{or-false}
 use Rattle.std.proofs.Math.Seq.{take-length, take-append-add, take-append_seam, drop-append_seam, take-nil}
 use Rattle.std.proofs.lemmas.List.{append_assoc, append-nil, length-append, length-take-le, take_more}
@@ -9,7 +9,6 @@ use Rattle.at_scan.specs.declared.places.NamePlace.{NamePlace}
 use Rattle.at_scan.specs.declared.members.FieldName.{FieldName}
 use Rattle.at_scan.specs.declared.members.OtherName.{OtherName}
 use Rattle.at_scan.specs.declared.members.OtherNames.{OtherNames}
-use Rattle.at_scan.specs.Fields.{is_no_field}
 use Rattle.at_scan.specs.Members.{name_in, IsPlainName, IsOtherName, is_named_among, known_in, is_among_others, AreUnlike, ArePlaced, ArePlainOthers, IsNextName, AreShortened, AreCut, AddsOther, AddsName, IsNextField}
 
 -- ---- the known names
@@ -113,7 +112,4 @@ module _ (w : List ℕ) where
 
 -- the names behind one more of them
 pub next_plain : (w : List ℕ) (old new : OtherNames) (n : FieldName) → ArePlainOthers w old → IsPlainName w n.place → IsNextField w old new n → ArePlainOthers w new
-next_plain w old new n h plain next = go (is_no_field n.field) refl where
-  go : (b : Bool) → is_no_field n.field ≡ b → ArePlainOthers w new
-  go true e = (next.other e).1.plain h plain
-  go false e = subst (ArePlainOthers w) (sym (next.field e)) h
+next_plain w old new n h k l = grind arith

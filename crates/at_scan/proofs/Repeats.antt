@@ -27,10 +27,7 @@ none_before numbers i n up some within less =
 -- one number more, which is among those that were found
 pub found_again : (numbers found new : List ℕ) (i : ℕ) → i < length numbers → Contains new (get_or numbers i 0) → ((n : ℕ) → Contains found n → Contains new n)
     → ((n : ℕ) → 2 ≤ times n (take i numbers) → Contains found n) → (n : ℕ) → 2 ≤ times n (take (i + 1) numbers) → Contains new n
-found_again numbers found new i within has keeps before n twice = go (cases_eq (get_or numbers i 0) n) where
-  go : (get_or numbers i 0 ≡ n) ⊎ (get_or numbers i 0 ≡ n → ⊥) → Contains new n
-  go (inl here) = subst (λ x. Contains new x) here has
-  go (inr other) = keeps n (before n (subst (λ t. 2 ≤ t) (count_by_more_no (λ x. x == n) numbers i 0 within (ne_eqb (get_or numbers i 0) n other)) twice))
+found_again numbers found new i h k l m n p = grind (arith, cases_eq, count_by_more_no, ne_eqb)
 
 -- one number more, which is greater than those before it
 pub found_once : (numbers found : List ℕ) (i : ℕ) → IsNonDecreasing numbers → 0 < i → i < length numbers → get_or numbers (i - 1) 0 < get_or numbers i 0
@@ -45,7 +42,4 @@ found_once numbers found i up some within greater before n twice = go (cases_eq 
 
 -- the same numbers in another order
 pub repeated_in_any_order : (numbers sorted found : List ℕ) → IsPermutation numbers sorted → HaveRepeated sorted found → HaveRepeated numbers found
-repeated_in_any_order numbers sorted found moved h = record {
-  rise = h.rise;
-  all = λ n twice. h.all n (subst (λ t. 2 ≤ t) (sym (sum_by-IsPermutation (λ x. cond (x == n) 1 0) numbers sorted moved)) twice);
-}
+repeated_in_any_order numbers sorted found h k = grind (arith, sum_by-IsPermutation)

@@ -25,6 +25,4 @@ blank_space : (b : ℕ) → is_blank b ≡ true → is_space b ≡ true
 blank_space b h = subst (λ n. is_space n ≡ true) (sym (eqb-true b 0x20 h)) refl
 
 pub blanks_are : (w : List ℕ) (at n : ℕ) → at + n ≤ length w → ((k : ℕ) → at ≤ k → k < at + n → is_blank (slice_index w k) ≡ true) → AreSpaces (between w at (at + n))
-blanks_are w at n within each =
-    let none : AreSpaces (between w at at) = subst AreSpaces (sym (part-none w at (omega (arith, within)))) tt in
-    spaces_more w at at n (omega arith) within none (λ k from to. blank_space (slice_index w k) (each k from to))
+blanks_are w at n h l = grind (arith, part-none, spaces_more, blank_space)

@@ -1,11 +1,11 @@
 -- Words that were taken from a place of a text on, and the bytes from one place to another.
 -- For `text_end`, `name_place` and `position_end`.
-use Rattle.std.proofs.Common.{◌++◌, ◌≡◌, ℕ, zero, suc, ◌+◌, ◌-◌, ◌<◌, ◌≤◌, true, List, [], ◌∷◌, length, take, drop, refl, sym, ◌∙◌, ap, subst, arith}
+use Rattle.std.proofs.Common.{◌≡◌, ℕ, ◌+◌, ◌-◌, ◌<◌, ◌≤◌, true, List, [], length, take, drop, sym, ◌∙◌, ap, subst, arith}
 use Rattle.std.proofs.lemmas.List.{length-drop, drop-take}
 use Rattle.at_text.specs.Prefix.{TakesLongest}
 use Rattle.at_text.specs.declared.prefixes.Taken.{Taken}
 use Rattle.at_fixed.specs.NumberSoFar.{between}
-use Rattle.at_fixed.specs.Numerals.{IsJsonWhole, JsonNumber}
+use Rattle.at_fixed.specs.Numerals.{JsonNumber}
 use Rattle.at_lex.specs.Strings.{JsonString, AreUnitsOf}
 use Rattle.at_lex.proofs.FrontLemmas.{suffix_is}
 use Rattle.at_scan.specs.declared.places.NamePlace.{NamePlace}
@@ -20,30 +20,16 @@ rest_to w i j h = rest_part w i (j - i) ∙ ap (between w i) (omega arith)
 
 -- what a reader of the bytes ahead takes as a whole word
 pub taken_whole : (L : List ℕ → Type 0) (w : List ℕ) (at : ℕ) (taken : Taken) → TakesLongest L (take (length w - at) (drop at w)) taken → taken.whole ≡ true → (taken.len ≤ length (drop at w)) × L (take taken.len (drop at w))
-taken_whole L w at taken h e =
-    let k : TakesLongest L (drop at w) taken = subst (λ z. TakesLongest L z taken) (suffix_is w at) h in
-    (k.longest.fits, (k.whole).0 e)
+taken_whole L w at taken h k = grind (arith, suffix_is)
 
 pub some_bytes : (L : List ℕ → Type 0) (w : List ℕ) (at n : ℕ) → (L [] → ⊥) → L (take n (drop at w)) → at < at + n
-some_bytes L w at n none h = by_count n h
-  where
-    by_count : (n : ℕ) → L (take n (drop at w)) → at < at + n
-    by_count zero h = absurd (none h)
-    by_count (suc n) h = omega arith
+some_bytes L w at n h k = grind arith
 
 pub end_fits : (w : List ℕ) (at n : ℕ) → at ≤ length w → n ≤ length (drop at w) → at + n ≤ length w
 end_fits w at n h k = omega (arith, h, k, length-drop at w)
 
 pub no_empty_number : JsonNumber [] → ⊥
-no_empty_number (n, h, e) = none n.sign n.whole _ e h.whole
-  where
-    nil_front : (a b : List ℕ) → [] ≡ a ++ b → a ≡ []
-    nil_front [] b e = refl
-    nil_front (x ∷ a) b e = cc
-
-    none : (s w r : List ℕ) → [] ≡ s ++ (w ++ r) → IsJsonWhole w → ⊥
-    none [] w r e h = subst IsJsonWhole (nil_front w r e) h
-    none (c ∷ s) w r e h = cc
+no_empty_number h = grind arith
 
 pub no_empty_string : JsonString [] → ⊥
 no_empty_string (cs, ok, e) = cc
