@@ -26,6 +26,17 @@ use Rattle.at_band.proofs.BandsOf.{some_map, some_by}
 abbrev Touching : Pos → Pos × Pos → Type 0
 Touching p f = HaveCommonPoint p p f.0 f.1
 
+-- ---- the edges of paths
+
+some_flat : (P : Pos × Pos → Type 0) (paths : List (List Pos)) → SomeOf (λ path. SomeOf P (edges path)) paths → SomeOf P (flat_map edges paths)
+some_flat P [] h = absurd h
+some_flat P (path ∷ paths) (inl h) = some_left P (edges path) (flat_map edges paths) h
+some_flat P (path ∷ paths) (inr h) = some_right P (edges path) (flat_map edges paths) (some_flat P paths h)
+
+flat_some : (P : Pos × Pos → Type 0) (paths : List (List Pos)) → SomeOf P (flat_map edges paths) → SomeOf (λ path. SomeOf P (edges path)) paths
+flat_some P [] h = absurd h
+flat_some P (path ∷ paths) h = elim (some_of_parts P (edges path) (flat_map edges paths) h) [ inl k ↦ inl k | inr k ↦ inr (flat_some P paths k) ]
+
 -- ---- polygons
 
 on_polygons : (p : Pos) (polygons : List Polygon) → SomeOf (IsOnPolygon p) polygons → MeetsSome p p (segments_of_polygons polygons) ⊎ IsInSome p polygons
@@ -51,8 +62,8 @@ met_polygon p (polygon ∷ polygons) h =
 pub on_by_points : (p : Pos) (s : Shape) → MeetsSome p p (segments_of_points s.points) → IsOnShape p s
 on_by_points p s h = inl (first_of_three (Touching p) (segments_of_points s.points) (flat_map edges s.lines) (segments_of_polygons s.polygons) h)
 
-pub on_by_lines : (p : Pos) (s : Shape) → MeetsSome p p (flat_map edges s.lines) → IsOnShape p s
-on_by_lines p s h = inl (second_of_three (Touching p) (segments_of_points s.points) (flat_map edges s.lines) (segments_of_polygons s.polygons) h)
+pub on_by_lines : (p : Pos) (s : Shape) → SomeOf (IsOnRing p) s.lines → IsOnShape p s
+on_by_lines p s h = inl (second_of_three (Touching p) (segments_of_points s.points) (flat_map edges s.lines) (segments_of_polygons s.polygons) (some_flat (Touching p) s.lines h))
 
 pub on_by_polygons : (p : Pos) (s : Shape) → SomeOf (IsOnPolygon p) s.polygons → IsOnShape p s
 on_by_polygons p s h =
@@ -61,9 +72,9 @@ on_by_polygons p s h =
       | inr k ↦ inr k
     ]
 
-pub by_parts : (p : Pos) (s : Shape) → ¬ MeetsSome p p (segments_of_points s.points) → ¬ MeetsSome p p (flat_map edges s.lines) → IsOnShape p s → SomeOf (IsOnPolygon p) s.polygons
+pub by_parts : (p : Pos) (s : Shape) → ¬ MeetsSome p p (segments_of_points s.points) → ¬ SomeOf (IsOnRing p) s.lines → IsOnShape p s → SomeOf (IsOnPolygon p) s.polygons
 by_parts p s f g (inr h) = some_map (λ (polygon : Polygon). IsInRings p polygon.rings) (IsOnPolygon p) (λ polygon k. inr k) s.polygons h
-by_parts p s f g (inl h) = met_polygon p s.polygons (only_third (Touching p) (segments_of_points s.points) (flat_map edges s.lines) (segments_of_polygons s.polygons) f g h)
+by_parts p s f g (inl h) = met_polygon p s.polygons (only_third (Touching p) (segments_of_points s.points) (flat_map edges s.lines) (segments_of_polygons s.polygons) f (λ k. g (flat_some (Touching p) s.lines k)) h)
 
 -- ---- a band
 
@@ -127,17 +138,17 @@ meet_points u s e (inr (inr h)) = absurd (nothing_in_none (positions s) (subst (
 pub on_boundary : (p : Pos) (exterior : List Pos) (holes : List (List Pos)) → IsOnRing p exterior → IsOnRings p (exterior ∷ holes)
 on_boundary p exterior holes h = inl (some_left (Touching p) (edges exterior) (flat_map edges holes) h)
 
-pub on_holes : (p : Pos) (exterior : List Pos) (holes : List (List Pos)) → MeetsSome p p (flat_map edges holes) → IsOnRings p (exterior ∷ holes)
-on_holes p exterior holes h = inl (some_right (Touching p) (edges exterior) (flat_map edges holes) h)
+pub on_holes : (p : Pos) (exterior : List Pos) (holes : List (List Pos)) → SomeOf (IsOnRing p) holes → IsOnRings p (exterior ∷ holes)
+on_holes p exterior holes h = inl (some_right (Touching p) (edges exterior) (flat_map edges holes) (some_flat (Touching p) holes h))
 
-pub inside_out : (p : Pos) (exterior : List Pos) (holes : List (List Pos)) → ¬ IsOnRing p exterior → ¬ MeetsSome p p (flat_map edges holes) → IsOnRings p (exterior ∷ holes) → AllByRecursion (IsNotInHole p) holes
+pub inside_out : (p : Pos) (exterior : List Pos) (holes : List (List Pos)) → ¬ IsOnRing p exterior → ¬ SomeOf (IsOnRing p) holes → IsOnRings p (exterior ∷ holes) → AllByRecursion (IsNotInHole p) holes
 inside_out p exterior holes f g (inr h) = h.1
-inside_out p exterior holes f g (inl h) = elim (some_of_parts (Touching p) (edges exterior) (flat_map edges holes) h) [ inl k ↦ absurd (f k) | inr k ↦ absurd (g k) ]
+inside_out p exterior holes f g (inl h) = elim (some_of_parts (Touching p) (edges exterior) (flat_map edges holes) h) [ inl k ↦ absurd (f k) | inr k ↦ absurd (g (flat_some (Touching p) holes k)) ]
 
-pub outside_out : (p : Pos) (exterior : List Pos) (holes : List (List Pos)) → ¬ IsOnRing p exterior → IsTrue (not (is_odd_for p exterior)) → IsOnRings p (exterior ∷ holes) → MeetsSome p p (flat_map edges holes)
+pub outside_out : (p : Pos) (exterior : List Pos) (holes : List (List Pos)) → ¬ IsOnRing p exterior → IsTrue (not (is_odd_for p exterior)) → IsOnRings p (exterior ∷ holes) → SomeOf (IsOnRing p) holes
 outside_out p exterior holes f g (inr (inl h, k)) = absurd (f h)
 outside_out p exterior holes f g (inr (inr h, k)) = absurd (false≢true (sym (not-true (is_odd_for p exterior) g) ∙ h))
-outside_out p exterior holes f g (inl h) = elim (some_of_parts (Touching p) (edges exterior) (flat_map edges holes) h) [ inl k ↦ absurd (f k) | inr k ↦ k ]
+outside_out p exterior holes f g (inl h) = elim (some_of_parts (Touching p) (edges exterior) (flat_map edges holes) h) [ inl k ↦ absurd (f k) | inr k ↦ flat_some (Touching p) holes k ]
 
 -- ---- a position off the box
 

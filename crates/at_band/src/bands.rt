@@ -14,20 +14,21 @@ ghost use Rattle.std.specs.Prelude.{◌≡◌, IsTrue, ◌↔◌, IfOk, IfSome, 
 ghost use Rattle.at_text.specs.Lists.{SomeOf};
 ghost use Rattle.at_geom.specs.declared.positions.Pos.{Pos};
 ghost use Rattle.at_geom.specs.Segments.{IsInRange};
-ghost use Rattle.at_geom.specs.Shapes.{IsShapeInRange, IsInSome, SomeIsIn, MeetsSome, Meet, segments, positions};
-ghost use Rattle.at_geom.specs.Shapes.{extent_of};
+ghost use Rattle.at_geom.specs.Shapes.{IsShapeInRange, IsInSome, SomeIsIn, MeetsSome, SomeMeet, Meet, segments};
+ghost use Rattle.at_geom.specs.Shapes.{positions, extent_of};
 ghost use Rattle.at_band.specs.Banded.{IsAt, IsBandOf, IsZoneOf, IsFrameOf, AreZonesOf, IsOfPoints, MeetsSomeWithin};
 ghost use Rattle.at_band.specs.Banded.{IsMetIn, IsMetInZone};
 ghost use Rattle.at_band.specs.Touched.{IsOnShape, SomeIsOn};
 
 use crate::copies::copied_shape;
 use crate::found::part_is_met;
-use crate::meetings::segments_meet_kept;
-use crate::positions::positions_are_in;
 use crate::thinning::{Heights, spans};
 use crate::touches::shape_is_touched;
 use crate::zones::{Band, Zone, heights_of, zones_of};
-use at_geom::{Extent, Pos, Shape, are_closed, extent, is_in_any, reach, shape_reaches};
+use at_geom::{
+    Extent, Pos, Shape, are_closed, extent, is_in_any, reach, shape_reaches, some_position,
+    some_segment,
+};
 use at_text::Memory;
 use std::alloc::Global;
 use std::marker::Model;
@@ -135,6 +136,29 @@ fn meets_kept(other: &Shape, shape: &Shape, frame: Frame, zones: &[Zone]) -> boo
     shape_is_reached(shape, other, around)
 }
 
+/// Whether some position of the other shape is in one of the kept shape's polygons.
+fn positions_are_in(other: &Shape, shape: &Shape, frame: Frame, zones: &[Zone]) -> bool
+    requires other_in_range { IsShapeInRange other.now }
+    requires shape_in_range { IsShapeInRange shape.now }
+    requires kept { AreZonesOf shape.now frame zones.now }
+    ensures { IsTrue result ↔ SomeIsIn (positions other.now) shape.now.polygons }
+{
+    some_position(other, &move |p| position_is_in(p, shape, frame, zones))
+}
+
+/// Whether some segments of the other shape and of the kept one have a common point.
+fn segments_meet_kept(other: &Shape, shape: &Shape, frame: Frame, zones: &[Zone]) -> bool
+    requires other_in_range { IsShapeInRange other.now }
+    requires shape_in_range { IsShapeInRange shape.now }
+    requires kept { AreZonesOf shape.now frame zones.now }
+    ensures { IsTrue result ↔ SomeMeet (segments other.now) (segments shape.now) }
+{
+    some_segment(
+        other,
+        &move |a, b| segment_meets_kept(a, b, shape, frame, zones),
+    )
+}
+
 /// Whether one of the shape's positions is in a polygon of the other shape.
 fn shape_is_reached(shape: &Shape, other: &Shape, around: Extent) -> bool
     requires shape_in_range { IsShapeInRange shape.now }
@@ -240,7 +264,7 @@ fn has_height(heights: Heights, p: Pos) -> bool
 }
 
 /// Whether a position is in one of the shape's polygons.
-pub(crate) fn position_is_in(p: Pos, shape: &Shape, frame: Frame, zones: &[Zone]) -> bool
+fn position_is_in(p: Pos, shape: &Shape, frame: Frame, zones: &[Zone]) -> bool
     requires p_in_range { IsInRange p }
     requires shape_in_range { IsShapeInRange shape.now }
     requires kept { AreZonesOf shape.now frame zones.now }
@@ -265,13 +289,7 @@ fn is_in_bands(p: Pos, shape: &Shape, frame: Frame, zones: &[Zone]) -> bool
 }
 
 /// Whether the segment `ab` meets one of the shape's.
-pub(crate) fn segment_meets_kept(
-    a: Pos,
-    b: Pos,
-    shape: &Shape,
-    frame: Frame,
-    zones: &[Zone],
-) -> bool
+fn segment_meets_kept(a: Pos, b: Pos, shape: &Shape, frame: Frame, zones: &[Zone]) -> bool
     requires a_in_range { IsInRange a }
     requires b_in_range { IsInRange b }
     requires shape_in_range { IsShapeInRange shape.now }

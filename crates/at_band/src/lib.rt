@@ -23,8 +23,6 @@ mod copies;
 mod counts;
 mod cuts;
 mod found;
-mod meetings;
-mod positions;
 mod thinning;
 mod touches;
 mod zones;

@@ -1,8 +1,8 @@
 //! Whether a position lies on one of a shape's segments or in one of its polygons, in one pass.
 
-ghost use Rattle.std.specs.Prelude.{IsTrue, ◌↔◌, ◌∷◌, All, flat_map};
+ghost use Rattle.std.specs.Prelude.{IsTrue, ◌↔◌, ◌∷◌, All};
 ghost use Rattle.at_text.specs.Lists.{SomeOf};
-ghost use Rattle.at_geom.specs.Segments.{IsInRange, edges};
+ghost use Rattle.at_geom.specs.Segments.{IsInRange};
 ghost use Rattle.at_geom.specs.Regions.{IsOnRing};
 ghost use Rattle.at_geom.specs.Shapes.{ArePathsInRange, ArePolygonsInRange, IsShapeInRange, MeetsSome};
 ghost use Rattle.at_geom.specs.Shapes.{segments_of_points};
@@ -24,7 +24,7 @@ fn path_is_touched(p: Pos, path: &[Pos]) -> bool
 fn paths_are_touched(p: Pos, paths: &[Path]) -> bool
     requires p_in_range { IsInRange p }
     requires paths_in_range { ArePathsInRange paths.now }
-    ensures { IsTrue result ↔ MeetsSome p p (flat_map edges paths.now) }
+    ensures { IsTrue result ↔ SomeOf (IsOnRing p) paths.now }
 {
     for path in paths {
         if path_is_touched(p, path.as_slice()) {

@@ -1,7 +1,7 @@
 -- What is true of each element of a list, and of some element of a list.
 -- For most public calls of the crate, `are_closed`, `doubled_area`, `in_polygon` among them.
-use Rattle.std.proofs.Common.{◌≡◌, ℕ, suc, ◌+◌, ◌<◌, ◌⊎◌, inl, inr, Bool, true, false, List, [], ◌∷◌, ◌++◌, length, get_or, drop, arith, refl, ap, subst, sym, ◌∙◌}
-use Rattle.std.specs.Prelude.{All, flat_map, IsTrue, ◌↔◌}
+use Rattle.std.proofs.Common.{◌≡◌, ℕ, suc, ◌+◌, ◌<◌, ◌⊎◌, inl, inr, Bool, true, false, List, [], ◌∷◌, ◌++◌, length, get_or, drop, arith, subst, sym, ◌∙◌}
+use Rattle.std.specs.Prelude.{All, IsTrue}
 use Rattle.std.proofs.lemmas.Bool.{false≢true}
 use Rattle.std.proofs.lemmas.List.{drop_more}
 use Rattle.at_text.specs.Lists.{SomeOf}
@@ -50,33 +50,11 @@ pub record SomeIsLeft {X : Type 0} (P : X → Type 0) (whole rest : List X) : Ty
   pub in_rest : SomeOf P whole → SomeOf P rest
   pub from_rest : SomeOf P rest → SomeOf P whole
 
--- the same of a loop over what gives lists, and of one over the positions behind the first
-pub record SomeItemIsLeft {X Y : Type 0} (P : Y → Type 0) (f : X → List Y) (xs : List X) (i : ℕ) : Type 0 where
-  pub left : SomeIsLeft P (flat_map f xs) (flat_map f (drop i xs))
-
+-- the same of a loop over the positions behind the first
 pub record SomeEdgeIsLeft (P : Pos × Pos → Type 0) (path : List Pos) (a : Pos) (rest : List Pos) (i : ℕ) : Type 0 where
   pub from_in_range : IsInRange a
   pub rest_in_range : All IsInRange rest
   pub left : SomeIsLeft P (edges path) (edges (a ∷ drop i rest))
-
--- the loop's item y gives a list, which was looked through
-pub found_in_item : {X Y : Type 0} {P : Y → Type 0} {f : X → List Y} {xs : List X} {i : ℕ} {y : X} {part : List Y} {r : Bool} → SomeItemIsLeft P f xs i → y ≡ get_or xs i y → i < length xs → part ≡ f y → (IsTrue r ↔ SomeOf P part) → r ≡ true → IsTrue true ↔ SomeOf P (flat_map f xs)
-found_in_item {X} {Y} {P} {f} {xs} {i} {y} {part} now is lt e said t =
-    let here = subst (SomeOf P) (e ∙ ap f is) (said.0 t) in
-    let later = some_left P (f (get_or xs i y)) (flat_map f (drop (i + 1) xs)) here in
-    (λ _. now.left.from_rest (subst (λ (r : List X). SomeOf P (flat_map f r)) (sym (drop_more xs i y lt)) later), λ _. refl)
-
-pub not_in_item : {X Y : Type 0} {P : Y → Type 0} {f : X → List Y} {xs : List X} {i : ℕ} {y : X} {part : List Y} {r : Bool} → SomeItemIsLeft P f xs i → y ≡ get_or xs i y → i < length xs → part ≡ f y → (IsTrue r ↔ SomeOf P part) → r ≡ false → SomeItemIsLeft P f xs (i + 1)
-not_in_item {X} {Y} {P} {f} {xs} {i} {y} {part} {r} now is lt e said t =
-    let here = f (get_or xs i y) in let later = flat_map f (drop (i + 1) xs) in
-    let split = drop_more xs i y lt in
-    let none = λ (k : SomeOf P here). untrue r t said.1 (subst (SomeOf P) (sym (e ∙ ap f is)) k) in
-    record {
-      left = record {
-        in_rest = λ h. elim (some_of_parts P here later (subst (λ (r : List X). SomeOf P (flat_map f r)) split (now.left.in_rest h))) [ inl k ↦ absurd (none k) | inr k ↦ k ];
-        from_rest = λ h. now.left.from_rest (subst (λ (r : List X). SomeOf P (flat_map f r)) (sym split) (some_right P here later h));
-      };
-    }
 
 -- the loop's item ends an edge
 pub all_edges : {P : Pos × Pos → Type 0} {path : List Pos} {a : Pos} {rest : List Pos} → path ≡ a ∷ rest → All IsInRange path → SomeEdgeIsLeft P path a rest 0
@@ -115,17 +93,3 @@ only_third P xs ys zs f g h =
       | inr k ↦ k
       | inl k ↦ elim (some_of_parts P xs ys k) [ inl m ↦ absurd (f m) | inr m ↦ absurd (g m) ]
     ]
-
--- looked through one after the other
-
-pub found_in_first : {X : Type 0} (P : X → Type 0) {xs : List X} (ys zs : List X) {part : List X} {r : Bool} → part ≡ xs → (IsTrue r ↔ SomeOf P part) → r ≡ true → IsTrue true ↔ SomeOf P ((xs ++ ys) ++ zs)
-found_in_first {X} P {xs} ys zs e said t = (λ _. first_of_three P xs ys zs (subst (SomeOf P) e (said.0 t)), λ _. refl)
-
-pub found_in_second : {X : Type 0} (P : X → Type 0) (xs : List X) {ys : List X} (zs : List X) {part : List X} {r : Bool} → part ≡ ys → (IsTrue r ↔ SomeOf P part) → r ≡ true → IsTrue true ↔ SomeOf P ((xs ++ ys) ++ zs)
-found_in_second {X} P xs {ys} zs e said t = (λ _. second_of_three P xs ys zs (subst (SomeOf P) e (said.0 t)), λ _. refl)
-
-pub in_third : {X : Type 0} (P : X → Type 0) {xs ys zs one two three : List X} {q r s : Bool} → one ≡ xs → two ≡ ys → three ≡ zs → (IsTrue q ↔ SomeOf P one) → q ≡ false → (IsTrue r ↔ SomeOf P two) → r ≡ false → (IsTrue s ↔ SomeOf P three) → IsTrue s ↔ SomeOf P ((xs ++ ys) ++ zs)
-in_third {X} P {xs} {ys} {zs} {one} {two} {three} {q} {r} {s} e f g first no_first second no_second third =
-    let none = λ (m : SomeOf P xs). untrue q no_first first.1 (subst (SomeOf P) (sym e) m) in
-    let no_other = λ (m : SomeOf P ys). untrue r no_second second.1 (subst (SomeOf P) (sym f) m) in
-    (λ t. third_of_three P xs ys zs (subst (SomeOf P) g (third.0 t)), λ h. third.1 (subst (SomeOf P) (sym g) (only_third P xs ys zs none no_other h)))

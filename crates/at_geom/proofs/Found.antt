@@ -7,7 +7,6 @@ use Rattle.std.specs.List.{AllByRecursion, list_all}
 use Rattle.std.proofs.lemmas.Int.{ints, clamps}
 use Rattle.at_text.specs.Lists.{SomeOf}
 use Rattle.at_geom.specs.declared.positions.Pos.{Pos}
-use Rattle.at_geom.specs.declared.shapes.Polygon.{Polygon}
 use Rattle.at_geom.specs.declared.shapes.Shape.{Shape}
 use Rattle.at_geom.specs.declared.rectangles.Extent.{Extent}
 use Rattle.at_geom.specs.Segments.{HaveCommonPoint, edges}
@@ -102,27 +101,22 @@ found_edges x P (a ∷ b ∷ rest) w (inl h) = ((a, b), (h, w.0, w.1.0))
 found_edges x P (a ∷ b ∷ rest) w (inr h) = found_edges x P (b ∷ rest) w.1 h
 found_edges x P _ w h = absurd h
 
-found_paths : (x : Extent) (P : Pos × Pos → Type 0) (paths : List (List Pos)) → AreWithin x (joined paths) → SomeOf P (flat_map edges paths) → Found x P
-found_paths x P [] w h = absurd h
-found_paths x P (path ∷ paths) w h =
-    elim (some_of_parts P (edges path) (flat_map edges paths) h) [
-      | inl k ↦ found_edges x P path (first_within x path (joined paths) w) k
-      | inr k ↦ found_paths x P paths (second_within x path (joined paths) w) k
+found_each : {X : Type 0} (x : Extent) (P : Pos × Pos → Type 0) (f : X → List Pos) (g : X → List (Pos × Pos)) → ((y : X) → AreWithin x (f y) → SomeOf P (g y) → Found x P) → (ys : List X) → AreWithin x (flat_map f ys) → SomeOf P (flat_map g ys) → Found x P
+found_each x P f g found [] w h = absurd h
+found_each x P f g found (y ∷ ys) w h =
+    elim (some_of_parts P (g y) (flat_map g ys) h) [
+      | inl k ↦ found y (first_within x (f y) (flat_map f ys) w) k
+      | inr k ↦ found_each x P f g found ys (second_within x (f y) (flat_map f ys) w) k
     ]
 
-found_polygons : (x : Extent) (P : Pos × Pos → Type 0) (polygons : List Polygon) → AreWithin x (positions_of_polygons polygons) → SomeOf P (segments_of_polygons polygons) → Found x P
-found_polygons x P [] w h = absurd h
-found_polygons x P (polygon ∷ polygons) w h =
-    elim (some_of_parts P (flat_map edges polygon.rings) (segments_of_polygons polygons) h) [
-      | inl k ↦ found_paths x P polygon.rings (first_within x (joined polygon.rings) (positions_of_polygons polygons) w) k
-      | inr k ↦ found_polygons x P polygons (second_within x (joined polygon.rings) (positions_of_polygons polygons) w) k
-    ]
+found_paths : (x : Extent) (P : Pos × Pos → Type 0) (paths : List (List Pos)) → AreWithin x (joined paths) → SomeOf P (flat_map edges paths) → Found x P
+found_paths x P = found_each x P (λ path. path) edges (found_edges x P)
 
 pub found_segment : (x : Extent) (P : Pos × Pos → Type 0) (s : Shape) → AreWithin x (positions s) → SomeOf P (segments s) → Found x P
 found_segment x P s w h =
     let both = first_within x (s.points ++ joined s.lines) (positions_of_polygons s.polygons) w in
     elim (some_of_parts P (segments_of_points s.points ++ flat_map edges s.lines) (segments_of_polygons s.polygons) h) [
-      | inr k ↦ found_polygons x P s.polygons (second_within x (s.points ++ joined s.lines) (positions_of_polygons s.polygons) w) k
+      | inr k ↦ found_each x P (λ polygon. joined polygon.rings) (λ polygon. flat_map edges polygon.rings) (λ polygon. found_paths x P polygon.rings) s.polygons (second_within x (s.points ++ joined s.lines) (positions_of_polygons s.polygons) w) k
       | inl k ↦ elim (some_of_parts P (segments_of_points s.points) (flat_map edges s.lines) k) [
         | inl m ↦ found_points x P s.points (first_within x s.points (joined s.lines) both) m
         | inr m ↦ found_paths x P s.lines (second_within x s.points (joined s.lines) both) m

@@ -7,6 +7,7 @@ pub mod Covering
 pub mod Crossings
 pub mod EdgePoints
 pub mod Found
+pub mod Finding
 pub mod ClosedRings
 pub mod RingLaws
 pub mod Shoelace

@@ -31,6 +31,7 @@ mod regions;
 mod rules;
 mod segments;
 mod shapes;
+mod walks;
 
 pub use areas::{doubled_area, shoelace_term};
 pub use extents::{all_in, extent};
@@ -43,3 +44,4 @@ pub use regions::{RingPlace, in_polygon, is_in_no_hole, place_in_ring};
 pub use rules::{line_fault, ring_fault};
 pub use segments::segments_meet;
 pub use shapes::{Polygon, Polygons, Shape};
+pub use walks::{some_position, some_segment};

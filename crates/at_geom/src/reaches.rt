@@ -1,16 +1,17 @@
 //! Whether some position of a shape is in one of several polygons.
 
-ghost use Rattle.std.specs.Prelude.{◌≡◌, IsTrue, ◌↔◌, IfSome, Some, All};
+ghost use Rattle.std.specs.Prelude.{◌≡◌, IsTrue, ◌↔◌, IfSome, Some};
 ghost use Rattle.std.specs.List.{AllByRecursion};
 ghost use Rattle.at_geom.specs.Segments.{IsInRange};
-ghost use Rattle.at_geom.specs.Shapes.{ArePathsInRange, ArePolygonsInRange, IsShapeInRange, IsInSome, SomeIsIn};
-ghost use Rattle.at_geom.specs.Shapes.{positions, joined, positions_of_polygons, extent_of, is_within};
+ghost use Rattle.at_geom.specs.Shapes.{ArePolygonsInRange, IsShapeInRange, IsInSome, SomeIsIn};
+ghost use Rattle.at_geom.specs.Shapes.{positions, extent_of, is_within};
 ghost use Rattle.at_geom.specs.Closed.{IsClosed, HasClosedExterior};
 
-use crate::positions::{Path, Pos};
+use crate::positions::Pos;
 use crate::rectangles::Extent;
 use crate::regions::in_polygon;
 use crate::shapes::{Polygon, Shape};
+use crate::walks::some_position;
 
 /// Whether some position of the shape is in one of the polygons. Where `reach` is told, no position outside it
 /// is.
@@ -20,55 +21,7 @@ pub fn shape_reaches(shape: &Shape, polygons: &[Polygon], reach: Option<Extent>)
     requires reached { IfSome reach (λ e. (p : Pos) → IsInSome p polygons.now → IsTrue (is_within e p)) }
     ensures { IsTrue result ↔ SomeIsIn (positions shape.now) polygons.now }
 {
-    if path_reaches(shape.points.as_slice(), polygons, reach) {
-        return true;
-    }
-    if paths_reach(shape.lines.as_slice(), polygons, reach) {
-        return true;
-    }
-    polygons_reach(shape.polygons.as_slice(), polygons, reach)
-}
-
-fn polygons_reach(ones: &[Polygon], polygons: &[Polygon], reach: Option<Extent>) -> bool
-    requires ones_in_range { ArePolygonsInRange ones.now }
-    requires polygons_in_range { ArePolygonsInRange polygons.now }
-    requires reached { IfSome reach (λ e. (p : Pos) → IsInSome p polygons.now → IsTrue (is_within e p)) }
-    ensures { IsTrue result ↔ SomeIsIn (positions_of_polygons ones.now) polygons.now }
-{
-    for one in ones {
-        if paths_reach(one.rings.as_slice(), polygons, reach) {
-            return true;
-        }
-    }
-    false
-}
-
-fn paths_reach(paths: &[Path], polygons: &[Polygon], reach: Option<Extent>) -> bool
-    requires paths_in_range { ArePathsInRange paths.now }
-    requires polygons_in_range { ArePolygonsInRange polygons.now }
-    requires reached { IfSome reach (λ e. (p : Pos) → IsInSome p polygons.now → IsTrue (is_within e p)) }
-    ensures { IsTrue result ↔ SomeIsIn (joined paths.now) polygons.now }
-{
-    for path in paths {
-        if path_reaches(path.as_slice(), polygons, reach) {
-            return true;
-        }
-    }
-    false
-}
-
-fn path_reaches(path: &[Pos], polygons: &[Polygon], reach: Option<Extent>) -> bool
-    requires path_in_range { All IsInRange path.now }
-    requires polygons_in_range { ArePolygonsInRange polygons.now }
-    requires reached { IfSome reach (λ e. (p : Pos) → IsInSome p polygons.now → IsTrue (is_within e p)) }
-    ensures { IsTrue result ↔ SomeIsIn path.now polygons.now }
-{
-    for p in path {
-        if is_in_some(*p, polygons, reach) {
-            return true;
-        }
-    }
-    false
+    some_position(shape, &move |p| is_in_some(p, polygons, reach))
 }
 
 fn is_in_some(p: Pos, polygons: &[Polygon], reach: Option<Extent>) -> bool

@@ -1,15 +1,7 @@
-use Rattle.std.proofs.Common.{ap}
-use Rattle.std.specs.Prelude.{flat_map}
-use Rattle.at_geom.specs.Segments.{edges}
-use Rattle.at_geom.specs.Shapes.{segments_of_points, segments_of_polygons}
-use Rattle.at_geom.proofs.Elements.{found_in_first, found_in_second, in_third}
+use Rattle.std.proofs.Common.{rules}
+use Rattle.at_band.specs.Banded.{MeetsWithin}
+use Rattle.at_geom.proofs.Finding.{found_means}
 use Rattle.at_band.proofs.found.part_is_met.Goals as goal
 
-pub returns-then-points_are_met : goal.returns-then-points_are_met
-returns-then-points_are_met c = found_in_first _ _ _ (ap segments_of_points c.as_slice.ensures) c.points_are_met.ensures c.if-points_are_met.true
-
-pub returns-then-paths_are_met : goal.returns-then-paths_are_met
-returns-then-paths_are_met c = found_in_second _ _ _ (ap (flat_map edges) c.as_slice-2.ensures) c.paths_are_met.ensures c.if-paths_are_met.true
-
 pub returns : goal.returns
-returns c = in_third _ (ap segments_of_points c.as_slice.ensures) (ap (flat_map edges) c.as_slice-2.ensures) (ap segments_of_polygons c.as_slice-3.ensures) c.points_are_met.ensures c.if-points_are_met.false c.paths_are_met.ensures c.if-paths_are_met.false c.polygons_are_met.ensures
+returns c = found_means (MeetsWithin c.args.heights.low c.args.heights.high c.args.a c.args.b) c.some_segment.ensures (λ e b said. search rules)

@@ -1,0 +1,7 @@
+use Rattle.std.proofs.Common.{rules}
+use Rattle.at_geom.specs.Shapes.{MeetsSome, segments}
+use Rattle.at_geom.proofs.Finding.{found_means}
+use Rattle.at_band.proofs.bands.segments_meet_kept.Goals as goal
+
+pub returns : goal.returns
+returns c = found_means (λ e. MeetsSome e.0 e.1 (segments c.args.shape.now)) c.some_segment.ensures (λ e b said. search rules)

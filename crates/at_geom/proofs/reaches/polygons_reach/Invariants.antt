@@ -1,6 +1,0 @@
-use Rattle.at_geom.specs.Shapes.{IsInSome, joined}
-use Rattle.at_geom.proofs.Elements.{SomeItemIsLeft}
-use Rattle.at_geom.proofs.reaches.polygons_reach.Given as goal
-
-abbrev pub invariant-loop-one : goal.invariant-loop-one
-invariant-loop-one l = SomeItemIsLeft (λ p. IsInSome p l.polygons) (λ one. joined one.rings) l.ones l.one-index
