@@ -10,7 +10,7 @@ use Rattle.at_lex.proofs.JsonString as str
 use Rattle.at_nest.specs.Syntax.{JsonText}
 use Rattle.at_nest.proofs.JsonNumber as num
 use Rattle.at_nest.proofs.TreeParts as parts
-use Rattle.at_nest.proofs.JsonMachine.{Frame, in_array, in_object, State, value, items, members, name, colon, after, in_number, in_string, in_name, in_word, is_nil, accepts, step, wrong, sound, text_from}
+use Rattle.at_nest.proofs.JsonMachine.{Frame, in_array, in_object, State, value, items, members, name, colon, after, in_number, in_string, in_name, in_word, is_nil, accepts, step, sound, text_from}
 use Rattle.at_nest.proofs.Steps.{Settled, is_clear, settled_step, still_spaces}
 use Rattle.at_nest.proofs.Values.{go, Enters, value_enters, value_at, on_number, on_string, on_name, on_word}
 use Rattle.at_nest.proofs.Walks.{Reads, spaces_read}
@@ -22,16 +22,16 @@ pub run_accepted : (s t : State) (u v : List ℕ) → go s u ≡ Some t → Acc 
 run_accepted s t [] v e k = subst (λ x. Acc x v) (sym (same_Some s t e)) k
 run_accepted s t (b ∷ u) v e k = option_and_then_some (λ x. go x u) (step s b) t e (λ q f g. (q, f, run_accepted q t u v g k))
 
--- what the grammar's state accepts, a state that is settled as it does, where no run goes on
-settled_accepts : (s t : State) → Settled s t → accepts t ≡ true → accepts s ≡ true
-settled_accepts (in_number n st) t (p, e) h = ap (λ c. c && is_nil st) p ∙ (ap accepts (sym e) ∙ h)
-settled_accepts (in_string s st) t (p, e) h = ap (λ c. c && is_nil st) p ∙ (ap accepts (sym e) ∙ h)
-settled_accepts (in_name s st) t (p, e) h = wrong (ap accepts (sym e) ∙ h)
-settled_accepts (in_word w st) t (p, e) h = ap (λ z. accepts (in_word z st)) p ∙ (ap accepts (sym e) ∙ h)
-settled_accepts _ t e h = ap accepts (sym e) ∙ h
+pub settled_accepts : (s t : State) → Settled s t → accepts s ≡ accepts t
+settled_accepts (in_number n st) t (p, e) = ap (λ c. c && is_nil st) p ∙ sym (ap accepts e)
+settled_accepts (in_string n st) t (p, e) = ap (λ c. c && is_nil st) p ∙ sym (ap accepts e)
+settled_accepts (in_name n st) t (p, e) = sym (ap accepts e)
+settled_accepts (in_word w st) t (p, e) = ap (λ x. is_nil x && is_nil st) p ∙ sym (ap accepts e)
+settled_accepts _ t e = sym (ap accepts e)
 
+-- what the grammar's state accepts, a state that is settled as it does, where no run goes on
 settled_accepted : (s t : State) (w : List ℕ) → Settled s t → is_clear s w ≡ true → Acc t w → Acc s w
-settled_accepted s t [] h c k = settled_accepts s t h k
+settled_accepted s t [] h c k = settled_accepts s t h ∙ k
 settled_accepted s t (b ∷ w) h c (q, e, k) = (q, settled_step s t b h (not-true _ c) ∙ e, k)
 
 text_accepted : (at : ℕ) (w : List ℕ) → JsonText at w → Acc (value []) w
@@ -41,7 +41,7 @@ text_accepted at w (t, h) =
     let end : Reads enter.last (after []) b = spaces_read enter.last (after []) b enter.settled hb in
     let goes : go (value []) w ≡ Some end.last = ap (go (value [])) (e ∙ ap (λ z. a ++ (v ++ (b ++ z))) f) ∙ (still_spaces (value []) a (v ++ (b ++ [])) tt ha
     ∙ (value_at [] v (b ++ []) enter ∙ (ap (go enter.last) (append-nil b) ∙ end.goes))) in
-    subst (Acc (value [])) (append-nil w) (run_accepted (value []) end.last w [] goes (settled_accepts end.last (after []) end.settled refl))
+    subst (Acc (value [])) (append-nil w) (run_accepted (value []) end.last w [] goes (settled_accepts end.last (after []) end.settled))
 
 -- ---- each state has an end
 

@@ -4,15 +4,13 @@ use Rattle.std.proofs.Common.{◌≡◌, ℕ, Option, List, [], ◌∷◌, ◌++
 use Rattle.at_text.specs.declared.texts.Span.{Span}
 use Rattle.at_lex.specs.Strings.{Character}
 use Rattle.at_nest.specs.declared.pieces.Piece.{Piece as CodePiece}
-use Rattle.at_nest.specs.declared.pieces.Piece.TheVariants.{Comma, Colon, Text, Value, Row as RowPiece, Closers as ClosersPiece}
-use Rattle.at_nest.specs.declared.pieces.Row.{Row}
-use Rattle.at_nest.specs.declared.pieces.Closers.{Closers}
+use Rattle.at_nest.specs.declared.pieces.Piece.TheVariants.{Comma, Colon, Text}
 use Rattle.at_nest.specs.declared.pieces.SpanStop.{SpanStop as CodeHalt}
 use Rattle.at_nest.specs.Tree.{Tree, text}
-use Rattle.at_nest.specs.Forms.{Meaning, Piece, mark, comma, colon, quoted, entry}
+use Rattle.at_nest.specs.Forms.{Meaning, Piece, mark, comma, colon, quoted}
 use Rattle.at_nest.specs.Levels.{Level, Form, Pushed, further, stopped, push, push_mark, push_all, push_then}
 use Rattle.at_nest.specs.Shown.{Held, Shown, AreOwn, show_as, comma_added, colon_added}
-use Rattle.at_nest.specs.KeptItems.{free, Content, one, OwnAtom, EachHeld, EachPiece, AreRow, PushesValue, PushesRow, PushesClosers, IsHeldPiece, IsShown, IsPushedAs, IsTextAt, IsPartOf, IsOfItems, CanAdd, Adds}
+use Rattle.at_nest.specs.KeptItems.{free, Content, one, OwnAtom, EachHeld, EachPiece, AreRow, IsHeldPiece, IsShown, IsPushedAs, IsTextAt, IsPartOf, IsOfItems, CanAdd, Adds}
 use Rattle.at_nest.proofs.Held.{held_own}
 use Rattle.at_nest.proofs.Showing.{comma_pushes, colon_pushes}
 

@@ -7,13 +7,12 @@ use Rattle.at_text.proofs.Machine.{run}
 use Rattle.at_nest.proofs.JsonNumber as num
 use Rattle.at_lex.specs.Runs.{Literal, literal_text, the_null, the_true, the_false}
 use Rattle.at_lex.proofs.JsonString as str
-use Rattle.at_nest.proofs.JsonMachine.{State, Frame, in_array, in_object, value, items, members, name, colon, after, in_number, in_string, in_name, in_word, step, within, begin_value, after_step, colon_step, same_byte, by_last}
+use Rattle.at_nest.proofs.JsonMachine.{State, Frame, in_array, value, items, members, name, colon, after, in_number, in_string, in_name, in_word, step, within, begin_value, after_step, colon_step, same_byte, by_last}
 use Rattle.at_nest.proofs.Steps.{IsStill}
-use Rattle.at_nest.proofs.Lexical.{after_off}
 use Rattle.at_nest.proofs.Values.{go, run_byte}
 pub use Rattle.at_nest.proofs.Values.{unlike, run_no_space, pass, number_begins}
 use Rattle.at_nest.specs.Walks.{value_kind, text_kind, next}
-use Rattle.at_nest.proofs.PieceSteps.{Unmarked, unmarked_halts, some_none, first}
+use Rattle.at_nest.proofs.PieceSteps.{Unmarked, unmarked_halts, first, quote_halts}
 use Rattle.at_nest.proofs.Pushes.{IsRunBegun, IsTextBegun}
 
 pub run_unmarked : (b : ℕ) → is_run b ≡ true → Unmarked b
@@ -107,15 +106,6 @@ text_goes_on (members st) t b v h e = let (f, n, g) = text_first b v h in (in_na
 text_goes_on (name st) t b v h e = let (f, n, g) = text_first b v h in (in_name n st, at_quote (name st) (in_name n st) b v f (name_run str.inside n st v g))
 text_goes_on (after (in_array ∷ st)) t b v h e = absurd (none-some t e)
 text_goes_on _ t b v h e = absurd (none-some t e)
-
-quote_halts : (s : State) → IsStill s → next s text_kind ≡ None → step s 0x22 ≡ None
-quote_halts (colon st) i e = refl
-quote_halts (after st) i e = after_off 0x22 refl refl refl refl st
-quote_halts (in_number n st) i e = absurd i
-quote_halts (in_string n st) i e = absurd i
-quote_halts (in_name n st) i e = absurd i
-quote_halts (in_word n st) i e = absurd i
-quote_halts _ i e = absurd (some_none _ e)
 
 pub text_stops : (s : State) (b : ℕ) (v : List ℕ) → IsStill s → IsTextBegun (b ∷ v) → next s text_kind ≡ None → step s b ≡ None
 text_stops s b v i h e = let (f, n, g) = text_first b v h in ap (step s) f ∙ quote_halts s i e

@@ -1,6 +1,6 @@
 -- Closing brackets of one kind, as what is read of the bytes from the first one on.
 -- For `merge` and `run_block`.
-use Rattle.std.proofs.Common.{◌≡◌, ℕ, Option, List, [], ◌∷◌, ◌++◌, false, true, refl, sym, ◌∙◌, ap, subst, arith, append-nil, ◌+◌, ◌-◌, ◌<◌, ◌≤◌, zero, suc, length, take, drop, get_or, replicate}
+use Rattle.std.proofs.Common.{◌≡◌, ℕ, Option, List, [], ◌∷◌, ◌++◌, false, true, refl, sym, ◌∙◌, ap, subst, arith, append-nil, ◌+◌, ◌-◌, zero, suc, length, take, drop, get_or, replicate}
 use Rattle.std.proofs.Math.Seq.{take-length}
 use Rattle.std.proofs.lemmas.List.{take-append-drop, length-replicate}
 use Rattle.at_lex.specs.Spans.{closing, IsKind, IsToken}

@@ -1,6 +1,6 @@
 -- What the form of a whole text answers: the fold of its tree, or the end of the longest viable prefix.
 -- For `finish`, `finish_span`, `merge` and `run_block`.
-use Rattle.std.proofs.Common.{◌≡◌, ℕ, ◌⊎◌, inl, inr, List, [], ◌∷◌, ◌++◌, Some, None, option_and_then, Bool, true, false, cond, ◌&&◌, refl, sym, ◌∙◌, ap, subst, arith, append_assoc, append-nil, ◌+◌, ◌<◌, ◌≤◌, length, length-append, take, drop, slice_index, take-append-drop, true≢false}
+use Rattle.std.proofs.Common.{◌≡◌, ℕ, ◌⊎◌, inl, inr, List, [], ◌∷◌, ◌++◌, Option, Some, None, option_and_then, Bool, true, false, cond, refl, sym, ◌∙◌, ap, subst, arith, append_assoc, append-nil, ◌+◌, ◌<◌, ◌≤◌, length, length-append, take, drop, slice_index, take-append-drop, true≢false}
 use Rattle.std.proofs.lemmas.Bool.{not-true}
 use Rattle.std.proofs.Math.Seq.{take-append_seam, take-length, get_or-append_seam}
 use Rattle.std.proofs.lemmas.Option.{none-some, same_Some}
@@ -12,8 +12,8 @@ use Rattle.at_lex.specs.Strings.{Character}
 use Rattle.at_nest.specs.Tree.{text}
 use Rattle.at_nest.specs.Syntax.{JsonText}
 use Rattle.at_nest.proofs.TreeParts.{text_made}
-use Rattle.at_nest.proofs.JsonMachine.{State, Frame, in_array, value, items, after, in_number, in_string, in_name, in_word, step, accepts, is_nil}
-use Rattle.at_nest.proofs.Accepted.{text_at, lives, Acc, accepted-JsonText}
+use Rattle.at_nest.proofs.JsonMachine.{State, Frame, in_array, value, items, after, step, accepts}
+use Rattle.at_nest.proofs.Accepted.{text_at, lives, run_accepted, settled_accepts, accepted-JsonText}
 use Rattle.at_nest.specs.Forms.{Meaning, Mark, Piece, quoted, entry, opens, closes, mark, Formed}
 use Rattle.at_nest.proofs.Steps.{Settled, is_clear, settled_step, settled_still}
 use Rattle.at_nest.proofs.Values.{go, run_then}
@@ -24,13 +24,6 @@ use Rattle.at_nest.specs.Levels.{Mode, at_items, full, first_mode, moves, Level,
 use Rattle.at_nest.proofs.Pushes.{AreLevels, IsForm, IsStop, IsPushed, IsDeadHere, IsBegun, IsRunBegun, IsTextBegun, moves_walk, same_length}
 use Rattle.at_nest.proofs.Begun.{run_goes, run_halts, text_goes_on, text_stops}
 pub use Rattle.at_nest.specs.Answers.{Answer, folded, syntax, ended, single, folded_or, by_walk, choose, halt_place, stop_by, finished, IsAnswer}
-
-settled_accepts : (s t : State) → Settled s t → accepts s ≡ accepts t
-settled_accepts (in_number n st) t (p, e) = ap (λ c. c && is_nil st) p ∙ sym (ap accepts e)
-settled_accepts (in_string n st) t (p, e) = ap (λ c. c && is_nil st) p ∙ sym (ap accepts e)
-settled_accepts (in_name n st) t (p, e) = sym (ap accepts e)
-settled_accepts (in_word w st) t (p, e) = ap (λ x. is_nil x && is_nil st) p ∙ sym (ap accepts e)
-settled_accepts _ t e = sym (ap accepts e)
 
 no_word : (w : List ℕ) (n : ℕ) → n < length w → LongestViable (JsonText 0) w n → ¬ (JsonText 0) w
 no_word w n h l word = l.longest h (drop (n + 1) w, subst (JsonText 0) (sym (take-append-drop (n + 1) w)) word)
@@ -67,12 +60,14 @@ AreClosed (opens b i ∷ ps) = ⊥
 AreClosed (closes b i ∷ ps) = AreClosed ps
 AreClosed (mark x ∷ ps) = AreClosed ps
 
+-- a walk on that ends in a state has gone on
+walked_on : {A : Type 0} (o : Option State) (i : ℕ) (f : State → Walk) (t : State) → walk_on o i f ≡ reached t → ((q : State) → o ≡ Some q → f q ≡ reached t → A) → A
+walked_on None i f t e k = absurd (no_walk i t e)
+walked_on (Some q) i f t e k = k q refl e
+
 walk_split : {X : Type 0} (ps qs : List (Piece X)) (s t : State) → walks s (ps ++ qs) ≡ reached t → (q : State) × (walks q qs ≡ reached t)
 walk_split [] qs s t e = (s, e)
-walk_split (p ∷ ps) qs s t e = elim (cases (next s (kind_of p))) [
-  | inl n ↦ absurd (no_walk _ t (sym (ap (λ o. walk_on o (at_of p) (λ x. walks x (ps ++ qs))) n) ∙ e))
-  | inr (v, n) ↦ walk_split ps qs v t (sym (ap (λ o. walk_on o (at_of p) (λ x. walks x (ps ++ qs))) n) ∙ e)
-]
+walk_split (p ∷ ps) qs s t e = walked_on (next s (kind_of p)) (at_of p) (λ x. walks x (ps ++ qs)) t e (λ v n f. walk_split ps qs v t f)
 
 open_full : (s t : State) (b : Bracket) → next s (an_opener b) ≡ Some t → (st : List Frame) × (t ≡ full (first_mode b) st)
 open_full (value st) t Square e = (st, sym (same_Some _ t e))
@@ -88,14 +83,11 @@ full_open _ st = refl
 
 -- a form with an open level doesn't end well
 open_ends : {X : Type 0} (ps : List (Piece X)) (b : Bracket) (i : ℕ) (xs : List (Mark X)) (md : Mode) (s t : State) → moves (first_mode b) xs ≡ Some md → walks s (ps ++ (opens b i ∷ marks xs)) ≡ reached t → accepts t ≡ false
-open_ends {X} ps b i xs md s t h e = let (q, f) = walk_split ps (opens b i ∷ marks xs) s t e in elim (cases (next q (an_opener b))) [
-  | inl n ↦ absurd (no_walk i t (sym (ap (λ o. walk_on o i (λ x. walks x (marks xs))) n) ∙ f))
-  | inr (v, n) ↦ (let (st, g) = open_full q v b n in
-      let k : walks v (marks xs) ≡ reached t = sym (ap (λ o. walk_on o i (λ x. walks x (marks xs))) n) ∙ f in
-      let l : walks (full (first_mode b) st) (marks xs ++ []) ≡ reached t = ap (walks (full (first_mode b) st)) (append-nil (marks xs)) ∙ (ap (λ z. walks z (marks xs)) (sym g) ∙ k) in
-      let is_full : full md st ≡ t = reached_is (full md st) t (sym (moves_walk xs (first_mode b) md st [] h) ∙ l) in
-      ap accepts (sym is_full) ∙ full_open md st)
-]
+open_ends {X} ps b i xs md s t h e = let (q, f) = walk_split ps (opens b i ∷ marks xs) s t e in walked_on (next q (an_opener b)) i (λ x. walks x (marks xs)) t f (λ v n k.
+    let (st, g) = open_full q v b n in
+    let l : walks (full (first_mode b) st) (marks xs ++ []) ≡ reached t = ap (walks (full (first_mode b) st)) (append-nil (marks xs)) ∙ (ap (λ z. walks z (marks xs)) (sym g) ∙ k) in
+    let is_full : full md st ≡ t = reached_is (full md st) t (sym (moves_walk xs (first_mode b) md st [] h) ∙ l) in
+    ap accepts (sym is_full) ∙ full_open md st)
 
 -- the pieces of a form that ends well are one value
 abbrev pub IsOne : {X : Type 0} → Meaning X → List (Piece X) → Type 0
@@ -143,13 +135,6 @@ halted_longer s at w y i h = record { before = h.before; byte = h.byte; others =
 -- a byte that the machine goes on with is viable
 goes_viable : (w : List ℕ) (t : State) → go (value []) w ≡ Some t → Viable (JsonText 0) w
 goes_viable w t e = let (v, k) = lives t in (v, (accepted-JsonText 0 (w ++ v)).0 (run_accepted (value []) t w v e k))
-  where
-    run_accepted : (s t : State) (u v : List ℕ) → go s u ≡ Some t → Acc t v → Acc s (u ++ v)
-    run_accepted s t [] v e k = subst (λ x. Acc x v) (sym (same_Some s t e)) k
-    run_accepted s t (b ∷ u) v e k = elim (cases (step s b)) [
-      | inl n ↦ absurd (none-some t (sym (ap (option_and_then (λ x. go x u)) n) ∙ e))
-      | inr (q, f) ↦ (q, f, run_accepted q t u v (sym (ap (option_and_then (λ x. go x u)) f) ∙ e) k)
-    ]
 
 -- a byte that no bytes before make viable stops the machine, where the machine comes to it
 dead_stops : (at i : ℕ) (w u : List ℕ) (b : ℕ) (o : List ℕ) (l : State) → IsDeadHere at w i → w ≡ u ++ (b ∷ o) → i ≡ at + length u → go (value []) u ≡ Some l → step l b ≡ None

@@ -8,7 +8,6 @@ use Rattle.at_lex.specs.Spans.{AreSpaces, opening, closing, end_of, begins_run, 
 use Rattle.at_lex.specs.Stream.{Left, GivesItem, IsBegun}
 use Rattle.at_lex.specs.declared.tokens.Start.{Start}
 use Rattle.at_lex.specs.declared.tokens.Start.TheVariants.{Out}
-use Rattle.at_lex.specs.declared.tokens.Bracket.{Bracket}
 use Rattle.at_lex.specs.declared.tokens.Bracket.TheVariants.{Brace, Square}
 use Rattle.at_lex.specs.declared.tokens.Token.{Token}
 use Rattle.at_lex.specs.declared.tokens.TokenKind.{TokenKind}
@@ -40,8 +39,8 @@ use Rattle.at_nest.proofs.Unions.{ends_token, string_last, lead_out, closes_out}
 
 -- ---- what ends a token
 
-open_end : (v r : List ℕ) → ends_run v ≡ false → are_apart v r ≡ true
-open_end v r e = ap (λ z. not (z && begins_run r)) e
+pub apart_by : (v r : List ℕ) → ends_run v ≡ false → are_apart v r ≡ true
+apart_by v r e = ap (λ z. not (z && begins_run r)) e
 
 pub record EndsWell (v r : List ℕ) : Type 0 where
   pub first : ℕ
@@ -51,13 +50,13 @@ pub record EndsWell (v r : List ℕ) : Type 0 where
   pub ended : r ≡ [] → ends_run v ≡ false
 
 one_byte : (v r : List ℕ) (b : ℕ) → v ≡ b ∷ [] → is_run b ≡ false → EndsWell v r
-one_byte v r b e n = let f : ends_run v ≡ false = ap ends_run e ∙ n in record { first = b; others = []; some = e; apart = open_end v r f; ended = λ q. f }
+one_byte v r b e n = let f : ends_run v ≡ false = ap ends_run e ∙ n in record { first = b; others = []; some = e; apart = apart_by v r f; ended = λ q. f }
 
 run_some : (v : List ℕ) → IsTrue (begins_run v) → (b : ℕ) × (o : List ℕ) × (v ≡ b ∷ o)
 run_some [] h = absurd (cc)
 run_some (b ∷ o) h = (b, o, refl)
 
-first_of : (w : List ℕ) → w ≢ [] → (b : ℕ) × (o : List ℕ) × (w ≡ b ∷ o)
+pub first_of : (w : List ℕ) → w ≢ [] → (b : ℕ) × (o : List ℕ) × (w ≡ b ∷ o)
 first_of [] k = absurd (k refl)
 first_of (b ∷ o) k = (b, o, refl)
 
@@ -68,7 +67,7 @@ lexed_ends at v r (kinds.Closes Brace) n h = one_byte v r 0x7D h refl
 lexed_ends at v r (kinds.Closes Square) n h = one_byte v r 0x5D h refl
 lexed_ends at v r kinds.Comma n h = one_byte v r 0x2C h refl
 lexed_ends at v r kinds.Colon n h = one_byte v r 0x3A h refl
-lexed_ends at v r kinds.Text n h = let (u, e, c) = h.0 in let f : ends_run v ≡ false = ap ends_run e ∙ string_last u c in record { first = 0x22; others = u; some = e; apart = open_end v r f; ended = λ q. f }
+lexed_ends at v r kinds.Text n h = let (u, e, c) = h.0 in let f : ends_run v ≡ false = ap ends_run e ∙ string_last u c in record { first = 0x22; others = u; some = e; apart = apart_by v r f; ended = λ q. f }
 lexed_ends at v r kinds.Run n h = let (b, o, e) = run_some v h.0.0.0 in
     record { first = b; others = o; some = e; apart = ap not (and_right (ends_run v) (begins_run r) (not-false (begins_run r) h.0.2)); ended = λ q. absurd (h.0.1 q) }
 lexed_ends at v r (kinds.Broken place) n h = absurd (cc)
@@ -83,7 +82,7 @@ bracket_byte at v r _ n h = absurd (cc)
 
 apart_spaces : (x a y : List ℕ) → are_apart x (a ++ y) ≡ true → AreSpaces a → are_apart (x ++ a) y ≡ true
 apart_spaces x [] y h k = ap (λ z. are_apart z y) (append-nil x) ∙ h
-apart_spaces x (c ∷ a) y h k = open_end (x ++ (c ∷ a)) y (ends_append x c a ∙ spaces_end (c ∷ a) k)
+apart_spaces x (c ∷ a) y h k = apart_by (x ++ (c ∷ a)) y (ends_append x c a ∙ spaces_end (c ∷ a) k)
 
 ended_spaces : (x a y : List ℕ) → (a ++ y ≡ [] → ends_run x ≡ false) → AreSpaces a → y ≡ [] → ends_run (x ++ a) ≡ false
 ended_spaces x [] y h k n = ap ends_run (append-nil x) ∙ h n
@@ -252,7 +251,7 @@ module _ {X : Type 0} (IsKept : X → Content → Type 0) where
         split = h.split ∙ (ap (λ z. h.read ++ z) (g.4 ∙ ap (λ z. g.0 ++ z) q.2) ∙ (sym (append_assoc h.read g.0 (q.0 ++ q.1)) ∙ (sym (append_assoc (h.read ++ g.0) q.0 q.1) ∙ ap (λ z. ((h.read ++ g.0) ++ q.0) ++ z) (sym left))));
         is_form = f.1;
         is_shown = f.2;
-        apart = open_end ((h.read ++ g.0) ++ q.0) new.rest last;
+        apart = apart_by ((h.read ++ g.0) ++ q.0) new.rest last;
         ended = λ m. last;
         place = ap (λ z. z.at) n ∙ omega (arith, q.3, g.6.0, h.place, length-append (h.read ++ g.0) q.0, length-append h.read g.0);
         out = ap (λ z. z.state) n;

@@ -14,7 +14,6 @@ use Rattle.at_lex.specs.declared.tokens.Start.TheVariants.{Out, InString, InEsca
 use Rattle.at_lex.proofs.JsonString as str
 use Rattle.at_nest.proofs.JsonNumber as num
 use Rattle.at_nest.specs.declared.finishing.NestEnd.{NestEnd}
-use Rattle.at_nest.specs.declared.finishing.NestEnd.TheVariants.{Memory}
 use Rattle.at_nest.specs.declared.pieces.SpanStop.{SpanStop as CodeHalt}
 use Rattle.at_nest.specs.declared.pieces.Within.{Within as CodeWithin}
 use Rattle.at_nest.specs.declared.pieces.Within.TheVariants as within

@@ -3,7 +3,6 @@
 use Rattle.std.proofs.Common.{◌≡◌, ℕ, ◌+◌, ◌-◌, Option, Some, None, List, [], ◌∷◌, ◌++◌, inl, inr, refl, sym, ◌∙◌, ap, subst, arith, append_assoc, length, length-append, take, get_or, All}
 use Rattle.std.proofs.Math.Seq.{take-append_seam}
 use Rattle.std.proofs.lemmas.List.Elements.{All-nil, All-cons}
-use Rattle.std.proofs.lemmas.Option.{none-some, same_Some}
 use Rattle.at_text.specs.declared.texts.Span.{Span}
 use Rattle.at_lex.specs.Strings.{Character}
 use Rattle.at_nest.specs.declared.algebra.Member.{Member}
@@ -25,7 +24,7 @@ use Rattle.at_nest.specs.Walks.{colon_kind, text_kind}
 use Rattle.at_nest.specs.Levels.{Mode, at_name, at_member, at_further, Level, pairs_in, marks, move, moves, further, with_mark, push_mark, push_all, push_then}
 use Rattle.at_nest.specs.Shown.{Held, held_of, array_level, object_level, Shown, show_as, kept_outside, put_back, comma_next, stop_at}
 use Rattle.at_nest.specs.MemberMarks.{ValueMark, string_value, other_value, mark_of, tree_of, MemberMarks, marks_behind_comma, member_marks, member_pairs, Awaits}
-use Rattle.at_nest.specs.KeptItems.{Content, one, free, pending_in, EachMember, IsNamed, IsHeld, EachHeld, EachNamed, AreMembers, ArePieces, EachPiece, IsPushedAs, IsTextAt, IsPartOf, AddsTo, CanAdd, Adds, PushesKeptText, PushesMember, PushesAwaited, PushesMembers, BeginsMembers, LengthensMembers, HasMembers, HasName, NamesMember, GainsMembers, IsBehindComma, PutsMembers}
+use Rattle.at_nest.specs.KeptItems.{Content, one, free, pending_in, EachMember, IsNamed, IsHeld, EachHeld, EachNamed, AreMembers, ArePieces, EachPiece, IsPushedAs, IsTextAt, IsPartOf, AddsTo, PushesMember, PushesAwaited, PushesMembers, BeginsMembers, LengthensMembers, HasMembers, HasName, NamesMember, GainsMembers, IsBehindComma, PutsMembers}
 use Rattle.at_nest.proofs.Held.{with_one, IsMoved, text_moves, none_of, value_pairs, value_pending, pairs_append, pending_append, each_member_append}
 use Rattle.at_nest.proofs.Pushes.{marks_append}
 use Rattle.at_nest.proofs.Joining.{push_marks}

@@ -1,6 +1,6 @@
 -- What one piece of a form leads to in the machine for bytes.
 -- For `finish`, `finish_span`, `merge` and `run_block`.
-use Rattle.std.proofs.Common.{◌≡◌, ℕ, inl, inr, List, [], ◌∷◌, ◌++◌, Option, Some, None, option_and_then, true, false, ◌==◌, refl, sym, ◌∙◌, ap, subst, arith, rules, append-nil}
+use Rattle.std.proofs.Common.{◌≡◌, ℕ, inl, inr, List, [], ◌∷◌, ◌++◌, Some, None, option_and_then, true, false, ◌==◌, refl, sym, ◌∙◌, ap, subst, arith, rules, append-nil}
 use Rattle.std.proofs.lemmas.Option.{none-some, same_Some}
 use Rattle.at_text.specs.Texts.{is_space}
 use Rattle.at_nest.proofs.TreeParts as parts
@@ -97,10 +97,7 @@ text_goes (name st) t v h e = let k : Named st v = named st v h in from_name st 
 text_goes (after (in_array ∷ st)) t v h e = absurd (none-some t e)
 text_goes _ t v h e = absurd (none-some t e)
 
-pub some_none : {X : Type 0} (t : X) → ◌≡◌ {A = Option X} (Some t) None → ⊥
-some_none t e = none-some t (sym e)
-
-quote_halts : (s : State) → IsStill s → next s text_kind ≡ None → step s 0x22 ≡ None
+pub quote_halts : (s : State) → IsStill s → next s text_kind ≡ None → step s 0x22 ≡ None
 quote_halts (after (in_array ∷ st)) i e = refl
 quote_halts _ i e = search rules
 

@@ -1,6 +1,6 @@
 -- Forms stay reduced; and a stop of a span is dead from the span's start state on.
 -- For `finish`, `finish_span`, `merge` and `run_block`.
-use Rattle.std.proofs.Common.{◌≡◌, ℕ, List, [], ◌∷◌, ◌++◌, Option, Some, None, Bool, true, false, not, ◌&&◌, refl, sym, ◌∙◌, ap, subst, append_assoc}
+use Rattle.std.proofs.Common.{◌≡◌, ℕ, List, [], ◌∷◌, ◌++◌, Option, Some, None, Bool, true, false, not, refl, sym, ◌∙◌, ap, subst, append_assoc}
 use Rattle.std.proofs.lemmas.Bool.{and_right}
 use Rattle.at_text.specs.Prefix.{Viable}
 use Rattle.at_lex.specs.declared.tokens.Start.{Start}
@@ -13,6 +13,7 @@ use Rattle.at_nest.specs.Forms.{Meaning, Mark, Piece, opens, closes, mark, entry
 use Rattle.at_nest.specs.Walks.{mark_kind}
 use Rattle.at_nest.proofs.Walks.{ends_append}
 use Rattle.at_nest.proofs.Joins.{end_append, at_end}
+use Rattle.at_nest.proofs.Items.{apart_by}
 use Rattle.at_nest.specs.Levels.{Mode, Level, Form, move, closes_at, built, pieces_of, Pushed, further, stopped, SpanStop, with_mark, push_mark, close_level, push_close, push, push_then, push_all}
 use Rattle.at_nest.proofs.Merges.{merged}
 use Rattle.at_nest.proofs.Finished.{AreClosed, IsReduced}
@@ -68,9 +69,6 @@ lead_last s x [] n h = absurd (no_close s n h)
     no_close Out n h = n refl
     no_close _ n h = h
 lead_last s x (b ∷ u) n h = ends_append x b u ∙ closes_last s (b ∷ u) n h
-
-apart_by : (x more : List ℕ) → ends_run x ≡ false → are_apart x more ≡ true
-apart_by x more h = ap (λ z. not (z && begins_run more)) h
 
 lead_apart : (s : Start) (x u more : List ℕ) → IsLeadEnd s u more → are_apart (x ++ u) more ≡ true
 lead_apart Out x u more (h, k, b, o, e) = ap not (and_right (ends_run (x ++ u)) (begins_run more) k)

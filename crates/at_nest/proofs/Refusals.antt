@@ -31,7 +31,7 @@ use Rattle.at_nest.specs.Closers.{turn}
 use Rattle.at_nest.specs.KeptItems.{Content, free, closers, row_marks, IsHeld, EachHeld, IsHeldPiece, ArePieces, EachPiece, IsShown, halt_of}
 use Rattle.at_nest.specs.Refusals.{not_behind_value, not_behind_text, not_behind_mark, not_behind_piece, not_behind_last, last_of, not_in, is_refused}
 use Rattle.at_nest.specs.VariantMeanings.{HoldsBehind}
-use Rattle.at_nest.proofs.JsonMachine.{State, Frame, in_array, in_object, value, items, members, name, colon as colon_state, after, step}
+use Rattle.at_nest.proofs.JsonMachine.{State, Frame, in_array, in_object, value, items, members, name, colon as colon_state, after, step, wrong}
 use Rattle.at_nest.proofs.Steps.{Settled, is_clear, settled_step}
 use Rattle.at_nest.proofs.Values.{go}
 use Rattle.at_nest.proofs.PieceSteps.{Halts, piece_first, piece_at, piece_halts, next_still}
@@ -89,33 +89,30 @@ token_kind token.Colon = colon_kind
 token_kind token.Text = text_kind
 token_kind _ = value_kind
 
-off : {A : Type 0} → false ≡ true → A
-off e = absurd (true≢false (sym e))
-
 value_then : (k : TokenKind) → not_behind_value k ≡ true → (st : List Frame) → next (after st) (token_kind k) ≡ None
-value_then (token.Closes b) e st = off e
-value_then token.Comma e st = off e
-value_then (token.Broken n) e st = off e
+value_then (token.Closes b) e st = wrong e
+value_then token.Comma e st = wrong e
+value_then (token.Broken n) e st = wrong e
 value_then _ e (in_array ∷ st) = refl
 value_then _ e _ = refl
 
 text_then_value : (k : TokenKind) → not_behind_text k ≡ true → not_behind_value k ≡ true
 text_then_value (token.Closes b) h = h
 text_then_value token.Comma h = h
-text_then_value token.Colon h = off h
+text_then_value token.Colon h = wrong h
 text_then_value (token.Broken n) h = h
 text_then_value _ h = refl
 
 text_then : (k : TokenKind) → not_behind_text k ≡ true → (st : List Frame) (t : State) → (t ≡ after st) ⊎ (t ≡ colon_state st) → next t (token_kind k) ≡ None
-text_then token.Colon e st t f = off e
+text_then token.Colon e st t f = wrong e
 text_then k e st t (inl f) = ap (λ z. next z (token_kind k)) f ∙ value_then k (text_then_value k e) st
 text_then k e st t (inr f) = ap (λ z. next z (token_kind k)) f
 
 mark_then : (k : TokenKind) → not_behind_mark k ≡ true → (st : List Frame) (t : State) → (t ≡ value st) ⊎ (t ≡ name st) → next t (token_kind k) ≡ None
-mark_then (token.Opens b) e st t f = off e
-mark_then token.Text e st t f = off e
-mark_then token.Run e st t f = off e
-mark_then (token.Broken n) e st t f = off e
+mark_then (token.Opens b) e st t f = wrong e
+mark_then token.Text e st t f = wrong e
+mark_then token.Run e st t f = wrong e
+mark_then (token.Broken n) e st t f = wrong e
 mark_then k e st t (inl f) = ap (λ z. next z (token_kind k)) f
 mark_then k e st t (inr f) = ap (λ z. next z (token_kind k)) f
 
@@ -217,7 +214,7 @@ dead_two {X} m at w front c p refuses f =
 broken_none : {X : Type 0} (hs : List (Held X)) (o : Option (CodePiece X)) (outer : List (CodePiece X)) (n : ℕ) → last_of outer ≡ o → not_in hs outer (token.Broken n) ≡ true → ⊥
 broken_none [] (Some (Comma i)) outer n e h = true≢false (sym h ∙ ap (λ z. not_behind_last z (token.Broken n)) e)
 broken_none [] _ outer n e h = true≢false (sym h ∙ ap (λ z. not_behind_last z (token.Broken n)) e)
-broken_none (k ∷ hs) o outer n e h = off h
+broken_none (k ∷ hs) o outer n e h = wrong h
 
 record PieceOf (at : ℕ) (v : List ℕ) (k : TokenKind) : Type 0 where
   piece : Piece Tree
@@ -270,15 +267,15 @@ module _ {X : Type 0} (IsKept : X → Content → Type 0) where
   last_is base w _ us k (inr u) h = absurd u
 
   outer_last : (base : ℕ) (w : List ℕ) (cs : List (CodePiece X)) (ps : List (Piece Tree)) (k : TokenKind) → EachPiece IsKept base w cs ps → not_behind_last (last_of cs) k ≡ true → LastPiece ps k
-  outer_last base w [] ps k e h = off h
+  outer_last base w [] ps k e h = wrong h
   outer_last base w (c ∷ []) ps k (us, vs, e, u, n) h = let r : LastPiece us k = last_is base w c us k u h in record { front = r.front; last = r.last; split = e ∙ (ap (λ z. us ++ z) n ∙ (append-nil us ∙ r.split)); refuses = r.refuses }
   outer_last base w (c ∷ (d ∷ cs)) ps k (us, vs, e, u, more) h = let r : LastPiece vs k = outer_last base w (d ∷ cs) vs k more h in
       record { front = us ++ r.front; last = r.last; split = e ∙ (ap (λ z. us ++ z) r.split ∙ sym (append_assoc us r.front (r.last ∷ []))); refuses = r.refuses }
 
   level_none : (h : Held X) (l : Level Tree) (b : Bracket) → IsHeld IsKept h l → not (takes_value h) ≡ true → (st : List Frame) → next (full l.mode st) (an_opener b) ≡ None
-  level_none (array_level i array.Empty xs) l b u e st = off e
-  level_none (array_level i array.Comma xs) l b u e st = off e
-  level_none (object_level i (object.Colon n) ms) l b u e st = off e
+  level_none (array_level i array.Empty xs) l b u e st = wrong e
+  level_none (array_level i array.Comma xs) l b u e st = wrong e
+  level_none (object_level i (object.Colon n) ms) l b u e st = wrong e
   level_none (array_level i s xs) l b u e st = ap (λ z. next (full z st) (an_opener b)) u.2
   level_none (object_level i s ms) l b u e st = ap (λ z. next (full z st) (an_opener b)) u.2
 
@@ -294,7 +291,7 @@ module _ {X : Type 0} (IsKept : X → Content → Type 0) where
           dead_level free at w (f.outer ++ opened ls) l.bracket l.from l.inside p l.mode (subst (Formed free at w) (level_more f.outer ls l.bracket l.from l.inside (p ∷ [])) formed) levels.0 (λ st. ap (next (full l.mode st)) kind ∙ level_none g l b u.0 h st)
       by_levels [] (l ∷ ls) k u h kind levels formed = absurd u
       by_levels (g ∷ hs) [] k u h kind levels formed = absurd u
-      by_levels (g ∷ hs) (l ∷ ls) _ u h kind levels formed = off h
+      by_levels (g ∷ hs) (l ∷ ls) _ u h kind levels formed = wrong h
 
   -- the piece stops before a token that is refused
   pub consumed_refused : (base : ℕ) (piece : List ℕ) (from lead : ℕ) (bytes : List ℕ) (body : Body X) (old new : Left) (t : Token) → Consumed IsKept base piece from bytes (shown body) old → (g : GivesItem old (WholeItem t) new) → is_refused (shown body) t.kind ≡ true

@@ -1,16 +1,16 @@
 -- Items of an array that were read at once, as what is read of the bytes from the first one's bracket on.
 -- For `merge` and `run_block`.
-use Rattle.std.proofs.Common.{◌≡◌, ℕ, inl, List, [], ◌∷◌, ◌++◌, Option, true, false, not, ◌&&◌, refl, sym, ◌∙◌, ap, subst, arith, append_assoc, append-nil, All, ◌+◌, ◌<◌, ◌≤◌, zero, suc, take, drop, take-append-drop, length, length-append}
+use Rattle.std.proofs.Common.{◌≡◌, ℕ, inl, List, [], ◌∷◌, ◌++◌, Option, false, refl, sym, ◌∙◌, ap, subst, arith, append_assoc, append-nil, All, ◌+◌, ◌<◌, ◌≤◌, zero, suc, take, drop, take-append-drop, length, length-append}
 use Rattle.std.proofs.lemmas.List.Elements.{All-nil, All-cons, All-head, All-tail}
 use Rattle.at_text.specs.Texts.{is_space}
-use Rattle.at_lex.specs.Spans.{AreSpaces, opening, begins_run}
+use Rattle.at_lex.specs.Spans.{AreSpaces, opening}
 use Rattle.at_lex.specs.declared.tokens.Bracket.{Bracket}
 use Rattle.at_lex.proofs.Unique.{head_same}
 use Rattle.at_nest.specs.declared.pieces.SpanStop.{SpanStop as CodeHalt}
 use Rattle.at_nest.specs.declared.algebra.Attempt.TheVariants.{Whole, Unsaid}
 use Rattle.at_nest.specs.declared.algebra.Attempt.{Attempt}
 use Rattle.at_nest.specs.Tree.{Tree, no_trees, Spells, SpellsItems, SpellsFurtherItems}
-use Rattle.at_nest.specs.Borders.{ends_run, are_apart}
+use Rattle.at_nest.specs.Borders.{ends_run}
 use Rattle.at_nest.specs.Forms.{Piece, entry, mark, Formed}
 use Rattle.at_nest.specs.Folds.{trees, Covers, IsAttempt, HasBrackets, IsItemsAttempt}
 use Rattle.at_nest.specs.Levels.{further, marks, push_all}
@@ -20,6 +20,7 @@ use Rattle.at_nest.specs.Reading.{ReadsAhead}
 use Rattle.at_nest.proofs.TreeParts as parts
 use Rattle.at_nest.proofs.Walks.{ends_append, spaces_end}
 use Rattle.at_nest.proofs.Held.{covers_holds}
+use Rattle.at_nest.proofs.Items.{apart_by}
 use Rattle.at_nest.proofs.Told.{fold_free}
 use Rattle.at_nest.proofs.Ahead.{IsEnded, no_opening, brackets_ended, brackets_no_text, value_brackets}
 
@@ -59,11 +60,8 @@ front_begins (suc n) b w h (more, e) = (b, take n more, ap (take (suc n)) e)
 
 -- ---- an item with brackets
 
-apart_ended : (v r : List ℕ) → ends_run v ≡ false → are_apart v r ≡ true
-apart_ended v r h = ap (λ p. not (p && begins_run r)) h
-
 item_formed : (at : ℕ) (w a v r : List ℕ) (t : Tree) (ps : List (Piece Tree)) → w ≡ a ++ (v ++ r) → AreSpaces a → HasBrackets t → Spells (at + length a) v t → Formed free (at + length a + length v) r ps → Formed free at w (mark (entry (at + length a) t) ∷ ps)
-item_formed at w a v r t ps e spaces has spells more = (a, v, r, e, spaces, (refl, t, spells, brackets_no_text t has, sym (fold_free t)), apart_ended v r (brackets_ended (at + length a) v t has spells).1, more)
+item_formed at w a v r t ps e spaces has spells more = (a, v, r, e, spaces, (refl, t, spells, brackets_no_text t has, sym (fold_free t)), apart_by v r (brackets_ended (at + length a) v t has spells).1, more)
 
 -- ---- the items behind the first one
 

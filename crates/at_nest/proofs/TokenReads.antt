@@ -29,6 +29,7 @@ use Rattle.at_nest.specs.Reading.{stop_within, within_from, Reads, ReadsToken, R
 use Rattle.at_nest.specs.Stops.{IsForm}
 use Rattle.at_nest.proofs.Longest.{string_runs}
 use Rattle.at_nest.proofs.Strings.{whole_string}
+use Rattle.at_nest.proofs.Items.{first_of}
 use Rattle.at_nest.proofs.Joins.{apart_nothing}
 use Rattle.at_nest.proofs.Readings.{IsReading, string_stops, run_stops, first_stops, reading_ends}
 use Rattle.at_nest.proofs.Runs.{run_there}
@@ -173,10 +174,6 @@ pub text_halt_is : (at n : ℕ) → 0 < n → halt_of (stop_within code.Text at 
 text_halt_is at zero h = absurd (omega (arith, h))
 text_halt_is at (suc n) h = refl
 
-some_first : (w : List ℕ) → w ≢ [] → (b : ℕ) × (o : List ℕ) × (w ≡ b ∷ o)
-some_first [] h = absurd (h refl)
-some_first (b ∷ o) h = (b, o, refl)
-
 pub run_no_quote : (b : ℕ) → is_run b ≡ true → (b == 0x22) ≡ false
 run_no_quote b h = unlike is_run b 0x22 refl h
 
@@ -202,7 +199,7 @@ broken_reads IsKept s v token place e base w f after h placed lexed =
       reading_ends free token.from v after _ r.1,
       stop_pushed IsKept base w s (stop_within (within_from v) token.from n) f _ h (ap (λ z. halt_of (stop_within z token.from n)) (within_text v u q) ∙ text_halt_is token.from n r.0),
     )
-    by_kind n (inr (is, refused)) = let (b, o, q) = some_first after is.1 in (
+    by_kind n (inr (is, refused)) = let (b, o, q) = first_of after is.1 in (
       stopped empty_form (run_halt token.from n),
       reading_ends free token.from v after _ (run_refused free token.from v after b o n is.0.1 is.0.0 q (not-false (begins_run after) is.2) refused.0 refused.1),
       stop_pushed IsKept base w s (stop_within (within_from v) token.from n) f _ h (ap (λ z. halt_of (stop_within z token.from n)) (within_run v is.0.0) ∙ run_halt_is token.from n),

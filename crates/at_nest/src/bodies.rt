@@ -28,7 +28,8 @@ use crate::levels::{
 };
 use crate::member_rows::{add_members, keep_awaited};
 use crate::open_levels::Levels;
-use crate::pieces::{Closers, Piece, Row, SpanStop, awaited_member, first_byte};
+use crate::pieces::{Closers, Piece, Row, RowValue, SpanStop, awaited_member, first_byte};
+use crate::sources::JsonSource;
 use at_lex::{Bracket, TokenKind, units};
 use at_text::{Memory, Span};
 use std::alloc::Global;
@@ -303,16 +304,15 @@ fn begin_row<A: Algebra>(
     body: &mut Body<A::Atom>,
     alloc: Global,
     algebra: &A,
-    comma: u32,
-    from: u32,
-    atom: A::Atom,
+    value: RowValue<A::Atom>,
 ) -> Result<Option<SpanStop>, Memory>
     requires outside { (shown body.old).levels ≡ [] }
-    requires own { A.is_own algebra.now atom }
+    requires own { A.is_own algebra.now value.atom }
     ensures { IfOk result (λ r.
         PushesBehind (IsAtomOf A.Algebra algebra.now)
-        (shown body.old) (shown body.new) r comma from atom) }
+        (shown body.old) (shown body.new) r value.comma value.from value.atom) }
 {
+    let RowValue { comma, from, atom } = value;
     let mut items = Vec::new(alloc);
     algebra.add(alloc, &mut items, atom)?;
     body.keep(Piece::Row(Row {
@@ -354,24 +354,22 @@ fn keep_behind<A: Algebra>(
     body: &mut Body<A::Atom>,
     alloc: Global,
     algebra: &A,
-    comma: u32,
-    from: u32,
-    atom: A::Atom,
+    value: RowValue<A::Atom>,
 ) -> Result<Option<SpanStop>, Memory>
     requires outside { (shown body.old).levels ≡ [] }
     requires held { IsOfItems (IsAtomOf A.Algebra algebra.now) (shown body.old) }
-    requires own { A.is_own algebra.now atom }
+    requires own { A.is_own algebra.now value.atom }
     ensures { IfOk result (λ r.
         PushesBehind (IsAtomOf A.Algebra algebra.now)
-        (shown body.old) (shown body.new) r comma from atom) }
+        (shown body.old) (shown body.new) r value.comma value.from value.atom) }
 {
     match body.outer.pop() {
-        Some(Piece::Row(row)) => lengthen_row(body, alloc, algebra, row, atom),
+        Some(Piece::Row(row)) => lengthen_row(body, alloc, algebra, row, value.atom),
         Some(piece) => {
             body.outer.push(piece)?;
-            begin_row(body, alloc, algebra, comma, from, atom)
+            begin_row(body, alloc, algebra, value)
         }
-        None => begin_row(body, alloc, algebra, comma, from, atom),
+        None => begin_row(body, alloc, algebra, value),
     }
 }
 
@@ -391,7 +389,9 @@ fn keep_other<A: Algebra>(
         (shown body.old) (shown body.new) r from atom) }
 {
     match body.outer.pop() {
-        Some(Piece::Comma(comma)) => keep_behind(body, alloc, algebra, comma, from, atom),
+        Some(Piece::Comma(comma)) => {
+            keep_behind(body, alloc, algebra, RowValue { comma, from, atom })
+        }
         Some(piece) => {
             body.outer.push(piece)?;
             body.keep(Piece::Value { from, atom })
@@ -459,7 +459,9 @@ fn keep_items<A: Algebra>(
 {
     match body.outer.pop() {
         Some(piece) => match piece {
-            Piece::Comma(comma) => keep_behind(body, alloc, algebra, comma, from, atom),
+            Piece::Comma(comma) => {
+                keep_behind(body, alloc, algebra, RowValue { comma, from, atom })
+            }
             piece => body.keep(piece),
         },
         None => Ok(None),
@@ -662,53 +664,53 @@ fn close_all<A: Algebra>(
 /// An item of the span behind.
 fn add<A: Algebra>(
     body: &mut Body<A::Atom>,
-    alloc: Global,
-    algebra: &A,
-    bytes: &[u8],
+    source: &JsonSource<'_, A>,
     piece: Piece<A::Atom>,
 ) -> Result<Option<SpanStop>, Memory>
-    requires fits { length bytes.now ≤ 2 ^ 28 }
-    requires held { CanAdd (IsAtomOf A.Algebra algebra.now) bytes.now (shown body.old) piece }
-    ensures { IfOk result (λ r. Adds (IsAtomOf A.Algebra algebra.now)
-        bytes.now
+    requires held { CanAdd (IsAtomOf A.Algebra source.now.algebra.now) source.now.bytes.now (shown body.old) piece }
+    ensures { IfOk result (λ r. Adds (IsAtomOf A.Algebra source.now.algebra.now)
+        source.now.bytes.now
         (shown body.old) piece (shown body.new) r) }
 {
     match piece {
-        Piece::Comma(at) => body.comma(alloc, at),
-        Piece::Colon(at) => body.colon(alloc, at),
-        Piece::Text { span, atom } => add_text(body, alloc, algebra, bytes, span, atom),
-        Piece::Value { from, atom } => read_value(body, alloc, algebra, from, atom),
-        Piece::Row(row) => add_row(body, alloc, algebra, row),
-        Piece::Members(row) => add_members(body, alloc, algebra, bytes, row),
-        Piece::Closers(closers) => close_all(body, alloc, algebra, closers),
+        Piece::Comma(at) => body.comma(source.alloc, at),
+        Piece::Colon(at) => body.colon(source.alloc, at),
+        Piece::Text { span, atom } => add_text(body, source, span, atom),
+        Piece::Value { from, atom } => read_value(body, source.alloc, source.algebra, from, atom),
+        Piece::Row(row) => add_row(body, source.alloc, source.algebra, row),
+        Piece::Members(row) => add_members(body, source, row),
+        Piece::Closers(closers) => close_all(body, source.alloc, source.algebra, closers),
     }
 }
 
 /// A string of the span behind, with its atom.
 fn add_text<A: Algebra>(
     body: &mut Body<A::Atom>,
-    alloc: Global,
-    algebra: &A,
-    bytes: &[u8],
+    source: &JsonSource<'_, A>,
     span: Span,
     atom: A::Atom,
 ) -> Result<Option<SpanStop>, Memory>
-    requires fits { length bytes.now ≤ 2 ^ 28 }
-    requires held { CanAdd (IsAtomOf A.Algebra algebra.now) bytes.now (shown body.old) (Piece.Text span atom) }
-    ensures { IfOk result (λ r. Adds (IsAtomOf A.Algebra algebra.now)
-        bytes.now
+    requires held { CanAdd (IsAtomOf A.Algebra source.now.algebra.now) source.now.bytes.now (shown body.old) (Piece.Text span atom) }
+    ensures { IfOk result (λ r. Adds (IsAtomOf A.Algebra source.now.algebra.now)
+        source.now.bytes.now
         (shown body.old) (Piece.Text span atom) (shown body.new) r) }
 {
-    match body.innermost(alloc) {
-        None => keep_text(body, alloc, algebra, span, atom),
+    match body.innermost(source.alloc) {
+        None => keep_text(body, source.alloc, source.algebra, span, atom),
         Some(level) => if level.wants_name() {
             let name = MemberName {
-                units: units(alloc, &bytes[span.from as usize..span.to as usize])?,
+                units: units(
+                    source.alloc,
+                    &source.bytes[span.from as usize..span.to as usize],
+                )?,
                 at: span.from,
             };
             body.put(level.name(name), span.from)
         } else {
-            body.put(with_value(alloc, algebra, level, atom)?, span.from)
+            body.put(
+                with_value(source.alloc, source.algebra, level, atom)?,
+                span.from,
+            )
         },
     }
 }
@@ -716,20 +718,17 @@ fn add_text<A: Algebra>(
 /// Puts the items of the span behind: those before its open levels one by one, and then the levels as they are.
 pub fn join<A: Algebra>(
     body: &mut Body<A::Atom>,
-    alloc: Global,
-    algebra: &A,
-    bytes: &[u8],
+    source: &JsonSource<'_, A>,
     behind: Body<A::Atom>,
 ) -> Result<Option<SpanStop>, Memory>
-    requires fits { length bytes.now ≤ 2 ^ 28 }
-    requires held { CanJoin (IsAtomOf A.Algebra algebra.now) bytes.now (shown body.old) (shown behind) }
-    ensures { IfOk result (λ r. Joins (IsAtomOf A.Algebra algebra.now)
-        bytes.now
+    requires held { CanJoin (IsAtomOf A.Algebra source.now.algebra.now) source.now.bytes.now (shown body.old) (shown behind) }
+    ensures { IfOk result (λ r. Joins (IsAtomOf A.Algebra source.now.algebra.now)
+        source.now.bytes.now
         (shown body.old) (shown behind) (shown body.new) r) }
 {
     let Body { outer, levels } = behind;
     for piece in outer {
-        let halt = add(body, alloc, algebra, bytes, piece)?;
+        let halt = add(body, source, piece)?;
         if halt.is_some() {
             return Ok(halt);
         }

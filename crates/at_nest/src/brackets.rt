@@ -11,6 +11,7 @@ ghost use Rattle.at_nest.specs.Reading.{is_bracket as is_bracket_kind, ReadsAhea
 use crate::algebra::{Algebra, Attempt};
 use crate::bodies::{Body, close, keep_closers, put_items, read_value};
 use crate::pieces::{Closers, SpanStop};
+use crate::sources::JsonSource;
 use crate::tries::Tries;
 use at_lex::{Bracket, Token, TokenKind};
 use at_text::Memory;
@@ -72,50 +73,49 @@ fn opened<T: Drop>(
 #[inline(always)]
 pub fn read_bracket<A: Algebra>(
     body: &mut Body<A::Atom>,
-    alloc: Global,
-    algebra: &A,
+    ahead: &JsonSource<'_, A>,
     tries: &mut Tries,
-    ahead: &[u8],
     token: Token,
 ) -> Result<Read, Memory>
     requires bracket { is_bracket_kind token.kind ≡ true }
-    requires token { (v after : List ℕ) × (ahead.now ≡ v ++ after) × IsLexed token.from v after token }
-    requires fits { token.from + length ahead.now ≤ 2 ^ 28 }
-    requires held { IsOfItems (IsAtomOf A.Algebra algebra.now) (shown body.old) }
-    ensures { IfOk result (λ r. ReadsAhead (IsAtomOf A.Algebra algebra.now)
-        (shown body.old) (shown body.new) r.halt token.from ahead.now r.to) }
+    requires token { (v after : List ℕ) × (ahead.now.bytes.now ≡ v ++ after) × IsLexed token.from v after token }
+    requires fits { token.from + length ahead.now.bytes.now ≤ 2 ^ 28 }
+    requires held { IsOfItems (IsAtomOf A.Algebra ahead.now.algebra.now) (shown body.old) }
+    ensures { IfOk result (λ r. ReadsAhead (IsAtomOf A.Algebra ahead.now.algebra.now)
+        (shown body.old) (shown body.new) r.halt token.from ahead.now.bytes.now r.to) }
 {
     let at = token.from;
+    let bytes = ahead.bytes;
     match token.kind {
         TokenKind::Opens(bracket) => {
-            let seen = tries.window(at, ahead.len(), bracket);
+            let seen = tries.window(at, bytes.len(), bracket);
             if seen == 0 {
-                return opened(body, alloc, bracket, at);
+                return opened(body, ahead.alloc, bracket, at);
             }
             if body.wants_items() {
-                let attempt = algebra.items(alloc, &ahead[..seen], at)?;
+                let attempt = ahead.algebra.items(ahead.alloc, &bytes[..seen], at)?;
                 tries.note(&attempt, seen);
                 let Attempt::Whole { len, atom } = attempt else {
-                    return opened(body, alloc, bracket, at);
+                    return opened(body, ahead.alloc, bracket, at);
                 };
-                let halt = put_items(body, alloc, algebra, at, atom)?;
+                let halt = put_items(body, ahead.alloc, ahead.algebra, at, atom)?;
                 return Ok(Read { to: at + len, halt });
             }
-            let attempt = algebra.value(alloc, &ahead[..seen], at)?;
+            let attempt = ahead.algebra.value(ahead.alloc, &bytes[..seen], at)?;
             tries.note(&attempt, seen);
             let Attempt::Whole { len, atom } = attempt else {
-                return opened(body, alloc, bracket, at);
+                return opened(body, ahead.alloc, bracket, at);
             };
-            let halt = read_value(body, alloc, algebra, at, atom)?;
+            let halt = read_value(body, ahead.alloc, ahead.algebra, at, atom)?;
             Ok(Read { to: at + len, halt })
         }
         TokenKind::Closes(bracket) => {
             if body.is_outside() {
-                let last = at + leading(&ahead[1..], ahead[0]) as u32;
-                let halt = keep_closers(body, algebra, Closers::of_kind(bracket, at, last))?;
+                let last = at + leading(&bytes[1..], bytes[0]) as u32;
+                let halt = keep_closers(body, ahead.algebra, Closers::of_kind(bracket, at, last))?;
                 return Ok(Read { to: last + 1, halt });
             }
-            let halt = close(body, alloc, algebra, bracket, at)?;
+            let halt = close(body, ahead.alloc, ahead.algebra, bracket, at)?;
             Ok(Read { to: at + 1, halt })
         }
         _ => unreachable!(),

@@ -25,6 +25,7 @@ use crate::fragments::Fragment;
 use crate::levels::Open;
 use crate::open_levels::{Levels, Stretch};
 use crate::pieces::{Piece, SpanStop, Within};
+use crate::sources::JsonSource;
 use crate::tokens::stop_in;
 use crate::variants::{Variant, join_items};
 use at_lex::{RunEnd, Start, check_run, take_text};
@@ -367,39 +368,41 @@ pub fn finish_span<A: Algebra>(
     let Some(parts) = whole.into_parts() else {
         return Err(NestEnd::Memory);
     };
-    finish_variant(alloc, algebra, bytes, span, parts.out)
+    let source = JsonSource {
+        alloc,
+        algebra,
+        bytes,
+    };
+    finish_variant(&source, span, parts.out)
 }
 
 /// The answer of a span, by what it is from outside text. Its lead is a run of its own.
 fn finish_variant<A: Algebra>(
-    alloc: Global,
-    algebra: &A,
-    bytes: &[u8],
+    source: &JsonSource<'_, A>,
     span: Span,
     variant: Variant<A::Atom>,
 ) -> Result<A::Atom, NestEnd>
-    requires fits { length bytes.now ≤ 2 ^ 28 }
     requires order { span.from ≤ span.to }
-    requires end { span.to ≤ length bytes.now }
-    requires held { HoldsVariant (IsAtomOf A.Algebra algebra.now) Start.Out span.from
-        (span_of bytes.now span.from span.to) variant }
-    ensures { Answers (IsAtomOf A.Algebra algebra.now) span.from (span_of bytes.now span.from span.to) result }
+    requires end { span.to ≤ length source.now.bytes.now }
+    requires held { HoldsVariant (IsAtomOf A.Algebra source.now.algebra.now) Start.Out span.from
+        (span_of source.now.bytes.now span.from span.to) variant }
+    ensures { Answers (IsAtomOf A.Algebra source.now.algebra.now) span.from (span_of source.now.bytes.now span.from span.to) result }
 {
-    let mut body = Body::new(alloc);
+    let mut body = Body::new(source.alloc);
     match variant {
         Variant::AllLead { .. } => {
-            let text = &bytes[span.from as usize..span.to as usize];
-            last(alloc, algebra, body, text, span.from)
+            let text = &source.bytes[span.from as usize..span.to as usize];
+            last(source.alloc, source.algebra, body, text, span.from)
         }
         Variant::Whole {
             lead,
             body: behind,
             pend,
             ..
-        } => match join_items(&mut body, alloc, algebra, bytes, span.from, lead, behind)? {
+        } => match join_items(&mut body, source, span.from, lead, behind)? {
             None => {
-                let text = &bytes[pend as usize..span.to as usize];
-                last(alloc, algebra, body, text, pend)
+                let text = &source.bytes[pend as usize..span.to as usize];
+                last(source.alloc, source.algebra, body, text, pend)
             }
             Some(halt) => Err(stop_of(&body, halt)),
         },
@@ -407,7 +410,7 @@ fn finish_variant<A: Algebra>(
             lead,
             body: behind,
             halt: end,
-        } => match join_items(&mut body, alloc, algebra, bytes, span.from, lead, behind)? {
+        } => match join_items(&mut body, source, span.from, lead, behind)? {
             None => Err(stop_of(&body, end)),
             Some(halt) => Err(stop_of(&body, halt)),
         },

@@ -10,6 +10,7 @@ ghost use Rattle.at_nest.specs.Slots.{slot_behind as behind_slot, bytes_in, no_i
 ghost use Rattle.at_nest.specs.FragmentMeanings.{HoldsEscape, HoldsParts, StandsFor, parts_of};
 
 use crate::algebra::Algebra;
+use crate::sources::JsonSource;
 use crate::variants::{Variant, join_variants, read_variant};
 use at_lex::Start;
 use at_text::Memory;
@@ -91,23 +92,18 @@ fn escape_of(piece: &[u8]) -> Escape
     Escape::Unread
 }
 
-fn read_parts<A: Algebra>(
-    alloc: Global,
-    algebra: &A,
-    piece: &[u8],
-    base: u32,
-) -> Result<Parts<A::Atom>, Memory>
-    requires { base + length piece.now ≤ 2 ^ 28 }
-    ensures { IfOk result (HoldsParts (IsAtomOf A.Algebra algebra.now) base piece.now) }
+fn read_parts<A: Algebra>(source: &JsonSource<'_, A>, base: u32) -> Result<Parts<A::Atom>, Memory>
+    requires { base + length source.now.bytes.now ≤ 2 ^ 28 }
+    ensures { IfOk result (HoldsParts (IsAtomOf A.Algebra source.now.algebra.now) base source.now.bytes.now) }
 {
-    let out = read_variant(alloc, algebra, piece, base, Start::Out)?;
-    let string = read_variant(alloc, algebra, piece, base, Start::InString)?;
+    let out = read_variant(source, base, Start::Out)?;
+    let string = read_variant(source, base, Start::InString)?;
     Ok(Parts {
         from: base,
-        to: base + piece.len() as u32,
+        to: base + source.bytes.len() as u32,
         out,
         string,
-        escape: escape_of(piece),
+        escape: escape_of(source.bytes),
     })
 }
 
@@ -117,7 +113,12 @@ pub fn run_block<A: Algebra>(alloc: Global, algebra: &A, piece: &[u8], base: u32
     requires { base + length piece.now ≤ 2 ^ 28 }
     ensures { StandsFor (IsAtomOf A.Algebra algebra.now) base piece.now result }
 {
-    let parts = read_parts(alloc, algebra, piece, base);
+    let source = JsonSource {
+        alloc,
+        algebra,
+        bytes: piece,
+    };
+    let parts = read_parts(&source, base);
     fragment_of(alloc, algebra, parts)
 }
 
@@ -181,73 +182,68 @@ fn nothing<T>() -> Variant<T>
 ///
 /// A merge reads its right span at most once for each of the left span's two variants.
 fn taken<A: Algebra>(
-    alloc: Global,
-    algebra: &A,
-    bytes: &[u8],
+    source: &JsonSource<'_, A>,
     parts: &mut Parts<A::Atom>,
     slot: Slot,
 ) -> Result<Variant<A::Atom>, Memory>
-    requires fits { length bytes.now ≤ 2 ^ 28 }
-    requires held { CanTake (IsAtomOf A.Algebra algebra.now)
-        bytes.now parts.old slot }
-    ensures same { IfOk result (Takes (IsAtomOf A.Algebra algebra.now)
-        bytes.now parts.old slot) }
+    requires held { CanTake (IsAtomOf A.Algebra source.now.algebra.now)
+        source.now.bytes.now parts.old slot }
+    ensures same { IfOk result (Takes (IsAtomOf A.Algebra source.now.algebra.now)
+        source.now.bytes.now parts.old slot) }
     ensures stays { Stays (Some slot) parts.old parts.new }
 {
     match slot {
         Slot::Out => Ok(mem::replace(&mut parts.out, nothing())),
         Slot::String => Ok(mem::replace(&mut parts.string, nothing())),
         Slot::Bytes(state) => {
-            let piece = &bytes[parts.from as usize..parts.to as usize];
-            read_variant(alloc, algebra, piece, parts.from, state)
+            let piece = JsonSource {
+                alloc: source.alloc,
+                algebra: source.algebra,
+                bytes: &source.bytes[parts.from as usize..parts.to as usize],
+            };
+            read_variant(&piece, parts.from, state)
         }
     }
 }
 
 /// The left variant with the right one that goes on behind it.
 fn joined<A: Algebra>(
-    alloc: Global,
-    algebra: &A,
-    bytes: &[u8],
+    source: &JsonSource<'_, A>,
     left: Variant<A::Atom>,
     right: &mut Parts<A::Atom>,
     wanted: Option<Slot>,
 ) -> Result<Variant<A::Atom>, Memory>
-    requires fits { length bytes.now ≤ 2 ^ 28 }
     requires held { (s : Start) × (at : ℕ) × (w : List ℕ) × (x : List ℕ)
-        × GoesOn (IsAtomOf A.Algebra algebra.now) bytes.now s at w x left
+        × GoesOn (IsAtomOf A.Algebra source.now.algebra.now) source.now.bytes.now s at w x left
         right.old wanted }
     ensures union { IfOk result (λ v. (s : Start) (at : ℕ) (w x : List ℕ)
-        → GoesOn (IsAtomOf A.Algebra algebra.now) bytes.now s at w x left
+        → GoesOn (IsAtomOf A.Algebra source.now.algebra.now) source.now.bytes.now s at w x left
         right.old wanted
-        → HoldsVariant (IsAtomOf A.Algebra algebra.now) s at (w ++ x) v) }
+        → HoldsVariant (IsAtomOf A.Algebra source.now.algebra.now) s at (w ++ x) v) }
     ensures stays { Stays wanted right.old right.new }
 {
     match wanted {
         None => Ok(left),
         Some(slot) => {
-            let behind = taken(alloc, algebra, bytes, right, slot)?;
-            join_variants(alloc, algebra, bytes, left, behind)
+            let behind = taken(source, right, slot)?;
+            join_variants(source, left, behind)
         }
     }
 }
 
 /// What is kept of two neighbouring spans, put together.
 fn merge_parts<A: Algebra>(
-    alloc: Global,
-    algebra: &A,
-    bytes: &[u8],
+    source: &JsonSource<'_, A>,
     left: Parts<A::Atom>,
     mut right: Parts<A::Atom>,
 ) -> Result<Parts<A::Atom>, Memory>
-    requires fits { length bytes.now ≤ 2 ^ 28 }
     requires beside { (at : ℕ) × (w : List ℕ) × (x : List ℕ)
-        × AreBeside (IsAtomOf A.Algebra algebra.now) bytes.now at w x left
+        × AreBeside (IsAtomOf A.Algebra source.now.algebra.now) source.now.bytes.now at w x left
         right }
     ensures { IfOk result (λ p. (at : ℕ) (w x : List ℕ)
-        → AreBeside (IsAtomOf A.Algebra algebra.now) bytes.now at w x left
+        → AreBeside (IsAtomOf A.Algebra source.now.algebra.now) source.now.bytes.now at w x left
         right
-        → HoldsParts (IsAtomOf A.Algebra algebra.now) at (w ++ x) p) }
+        → HoldsParts (IsAtomOf A.Algebra source.now.algebra.now) at (w ++ x) p) }
 {
     let Parts {
         from,
@@ -259,8 +255,8 @@ fn merge_parts<A: Algebra>(
     let to = right.to;
     let for_out = right.slot_from(out.end());
     let for_string = right.slot_behind(for_out, string.end());
-    let out = joined(alloc, algebra, bytes, out, &mut right, for_out)?;
-    let string = joined(alloc, algebra, bytes, string, &mut right, for_string)?;
+    let out = joined(source, out, &mut right, for_out)?;
+    let string = joined(source, string, &mut right, for_string)?;
     Ok(Parts {
         from,
         to,
@@ -288,7 +284,12 @@ pub fn merge<A: Algebra>(
 {
     match (left.into_parts(), right.into_parts()) {
         (Some(left), Some(right)) => {
-            let parts = merge_parts(alloc, algebra, bytes, left, right);
+            let source = JsonSource {
+                alloc,
+                algebra,
+                bytes,
+            };
+            let parts = merge_parts(&source, left, right);
             fragment_of(alloc, algebra, parts)
         }
         _ => lost(),

@@ -25,6 +25,7 @@ mod levels;
 mod member_rows;
 mod open_levels;
 mod pieces;
+mod sources;
 mod tokens;
 mod tries;
 mod variants;

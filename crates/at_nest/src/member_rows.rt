@@ -12,6 +12,7 @@ use crate::algebra::{Algebra, Member};
 use crate::bodies::Body;
 use crate::levels::{ArrayLevel, Level, ObjectLevel, ObjectState, Step, with_value};
 use crate::pieces::{Awaited, MemberRow, NamedValue, Piece, SpanStop};
+use crate::sources::JsonSource;
 use at_lex::units;
 use at_text::Memory;
 use std::alloc::Global;
@@ -124,21 +125,17 @@ fn named_member<T: Drop>(
 
 /// An object's members, and further ones behind them.
 fn with_members<A: Algebra>(
-    alloc: Global,
-    algebra: &A,
-    bytes: &[u8],
+    source: &JsonSource<'_, A>,
     mut members: Vec<Member<A::Atom>>,
     more: Vec<NamedValue<A::Atom>>,
 ) -> Result<Vec<Member<A::Atom>>, Memory>
-    requires fits { length bytes.now ≤ 2 ^ 28 }
-    requires names { All (HasName bytes.now) more.items }
+    requires names { All (HasName source.now.bytes.now) more.items }
     ensures { IfOk result (λ all.
-        GainsMembers (IsAtomOf A.Algebra algebra.now)
-        bytes.now members.items more.items all.items) }
+        GainsMembers (IsAtomOf A.Algebra source.now.algebra.now)
+        source.now.bytes.now members.items more.items all.items) }
 {
-    let _ = algebra;
     for member in more {
-        members.push(named_member(alloc, bytes, member)?)?;
+        members.push(named_member(source.alloc, source.bytes, member)?)?;
     }
     Ok(members)
 }
@@ -146,23 +143,20 @@ fn with_members<A: Algebra>(
 /// Puts an array that has a comma behind it back behind members: it takes the first name as a value, and no colon.
 fn refuse_members<A: Algebra>(
     body: &mut Body<A::Atom>,
-    alloc: Global,
-    algebra: &A,
-    bytes: &[u8],
+    source: &JsonSource<'_, A>,
     level: ArrayLevel<A::Atom>,
     row: MemberRow<A::Atom>,
 ) -> Result<Option<SpanStop>, Memory>
-    requires fits { length bytes.now ≤ 2 ^ 28 }
-    requires level { AreOwn (A.is_own algebra.now) (held_of (Level.Array level)) }
+    requires level { AreOwn (A.is_own source.now.algebra.now) (held_of (Level.Array level)) }
     requires comma { IsBehindComma (held_of (Level.Array level)) }
-    requires row { HasMembers (IsAtomOf A.Algebra algebra.now) bytes.now row }
-    ensures { IfOk result (λ r. PutsMembers (IsAtomOf A.Algebra algebra.now)
-        bytes.now (shown body.old) (shown body.new) r (held_of (Level.Array level)) row) }
+    requires row { HasMembers (IsAtomOf A.Algebra source.now.algebra.now) source.now.bytes.now row }
+    ensures { IfOk result (λ r. PutsMembers (IsAtomOf A.Algebra source.now.algebra.now)
+        source.now.bytes.now (shown body.old) (shown body.new) r (held_of (Level.Array level)) row) }
 {
     let name = row.items[0].name;
-    let text = &bytes[name.from as usize..name.to as usize];
-    let atom = algebra.scalar(alloc, text, name.from)?;
-    match with_value(alloc, algebra, Level::Array(level), atom)? {
+    let text = &source.bytes[name.from as usize..name.to as usize];
+    let atom = source.algebra.scalar(source.alloc, text, name.from)?;
+    match with_value(source.alloc, source.algebra, Level::Array(level), atom)? {
         Step::On(level) => body.put(Step::Refused(level), row.colon),
         Step::Refused(level) => body.put(Step::Refused(level), name.from),
     }
@@ -171,31 +165,31 @@ fn refuse_members<A: Algebra>(
 /// Puts a level that has a comma behind it back behind members.
 fn put_members<A: Algebra>(
     body: &mut Body<A::Atom>,
-    alloc: Global,
-    algebra: &A,
-    bytes: &[u8],
+    source: &JsonSource<'_, A>,
     level: Level<A::Atom>,
     row: MemberRow<A::Atom>,
 ) -> Result<Option<SpanStop>, Memory>
-    requires fits { length bytes.now ≤ 2 ^ 28 }
-    requires level { AreOwn (A.is_own algebra.now) (held_of level) }
+    requires level { AreOwn (A.is_own source.now.algebra.now) (held_of level) }
     requires comma { IsBehindComma (held_of level) }
-    requires row { HasMembers (IsAtomOf A.Algebra algebra.now) bytes.now row }
-    ensures { IfOk result (λ r. PutsMembers (IsAtomOf A.Algebra algebra.now)
-        bytes.now (shown body.old) (shown body.new) r (held_of level) row) }
+    requires row { HasMembers (IsAtomOf A.Algebra source.now.algebra.now) source.now.bytes.now row }
+    ensures { IfOk result (λ r. PutsMembers (IsAtomOf A.Algebra source.now.algebra.now)
+        source.now.bytes.now (shown body.old) (shown body.new) r (held_of level) row) }
 {
     match level {
-        Level::Array(level) => refuse_members(body, alloc, algebra, bytes, level, row),
+        Level::Array(level) => refuse_members(body, source, level, row),
         Level::Object(level) => {
             let ObjectLevel { from, members, .. } = Box::into_inner(level);
-            let members = with_members(alloc, algebra, bytes, members, row.items)?;
+            let members = with_members(source, members, row.items)?;
             let state = ObjectState::Value;
             let level = ObjectLevel {
                 from,
                 state,
                 members,
             };
-            body.put(Step::On(Level::Object(Box::new(alloc, level)?)), row.comma)
+            body.put(
+                Step::On(Level::Object(Box::new(source.alloc, level)?)),
+                row.comma,
+            )
         }
         level => body.put(Step::Refused(level), row.comma),
     }
@@ -204,22 +198,19 @@ fn put_members<A: Algebra>(
 /// Members of the span behind.
 pub fn add_members<A: Algebra>(
     body: &mut Body<A::Atom>,
-    alloc: Global,
-    algebra: &A,
-    bytes: &[u8],
+    source: &JsonSource<'_, A>,
     row: MemberRow<A::Atom>,
 ) -> Result<Option<SpanStop>, Memory>
-    requires fits { length bytes.now ≤ 2 ^ 28 }
-    requires held { IsOfItems (IsAtomOf A.Algebra algebra.now) (shown body.old) }
-    requires row { HasMembers (IsAtomOf A.Algebra algebra.now) bytes.now row }
-    ensures { IfOk result (λ r. PushesMembers (IsAtomOf A.Algebra algebra.now)
-        bytes.now (shown body.old) (shown body.new) r row) }
+    requires held { IsOfItems (IsAtomOf A.Algebra source.now.algebra.now) (shown body.old) }
+    requires row { HasMembers (IsAtomOf A.Algebra source.now.algebra.now) source.now.bytes.now row }
+    ensures { IfOk result (λ r. PushesMembers (IsAtomOf A.Algebra source.now.algebra.now)
+        source.now.bytes.now (shown body.old) (shown body.new) r row) }
 {
-    match body.innermost(alloc) {
+    match body.innermost(source.alloc) {
         None => body.keep(Piece::Members(row)),
         Some(level) => match level.comma() {
             Step::Refused(level) => body.put(Step::Refused(level), row.comma),
-            Step::On(level) => put_members(body, alloc, algebra, bytes, level, row),
+            Step::On(level) => put_members(body, source, level, row),
         },
     }
 }

@@ -24,6 +24,14 @@ pub struct Row<T> {
     pub items: Vec<T>,
 }
 
+/// A value behind a comma, or several, for which the atom stands.
+#[derive(Drop)]
+pub struct RowValue<T> {
+    pub comma: u32,
+    pub from: u32,
+    pub atom: T,
+}
+
 /// A member before the first open level: where its name stands, and what its value became.
 #[derive(Drop)]
 pub struct NamedValue<T> {

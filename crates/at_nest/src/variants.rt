@@ -12,6 +12,7 @@ use crate::algebra::Algebra;
 use crate::bodies::{Body, join};
 use crate::brackets::{is_bracket, read_bracket};
 use crate::pieces::{SpanStop, first_byte};
+use crate::sources::JsonSource;
 use crate::tokens::{cut_token, read_token};
 use crate::tries::Tries;
 use at_lex::{Item, Lead, Lexer, Pend, Start};
@@ -75,22 +76,20 @@ fn pend_of(pend: Pend, end: u32) -> u32
 
 /// Reads what stands behind the lead.
 fn read_items<A: Algebra>(
-    alloc: Global,
-    algebra: &A,
-    piece: &[u8],
+    source: &JsonSource<'_, A>,
     base: u32,
     lead: u32,
     mut lexer: Lexer<'_>,
 ) -> Result<Variant<A::Atom>, Memory>
-    requires fits { base + length piece.now ≤ 2 ^ 28 }
-    requires behind { HasBytes base piece.now lexer.at lexer.rest }
+    requires fits { base + length source.now.bytes.now ≤ 2 ^ 28 }
+    requires behind { HasBytes base source.now.bytes.now lexer.at lexer.rest }
     requires out { lexer.state ≡ Start.Out }
-    ensures { IfOk result (HoldsBehind (IsAtomOf A.Algebra algebra.now) base
-        piece.now
+    ensures { IfOk result (HoldsBehind (IsAtomOf A.Algebra source.now.algebra.now) base
+        source.now.bytes.now
         lexer.entry.at lexer.entry.rest lead) }
 {
-    let mut body = Body::new(alloc);
-    let mut tries = Tries::new(base, piece.len());
+    let mut body = Body::new(source.alloc);
+    let mut tries = Tries::new(base, source.bytes.len());
     loop {
         match lexer.next_item() {
             Item::Whole(token) => {
@@ -99,16 +98,20 @@ fn read_items<A: Algebra>(
                     return Ok(Variant::Broken { lead, body, halt });
                 }
                 if is_bracket(token.kind) {
-                    let ahead = from_place(piece, base, token.from);
-                    let read = read_bracket(&mut body, alloc, algebra, &mut tries, ahead, token)?;
+                    let ahead = JsonSource {
+                        alloc: source.alloc,
+                        algebra: source.algebra,
+                        bytes: from_place(source.bytes, base, token.from),
+                    };
+                    let read = read_bracket(&mut body, &ahead, &mut tries, token)?;
                     match read.halt {
                         None => lexer.skip_to(read.to),
                         Some(halt) => return Ok(Variant::Broken { lead, body, halt }),
                     }
                     continue;
                 }
-                let text = part(piece, base, token.from, token.to);
-                match read_token(&mut body, alloc, algebra, text, token)? {
+                let text = part(source.bytes, base, token.from, token.to);
+                match read_token(&mut body, source.alloc, source.algebra, text, token)? {
                     None => {}
                     Some(halt) => return Ok(Variant::Broken { lead, body, halt }),
                 }
@@ -117,7 +120,7 @@ fn read_items<A: Algebra>(
                 return Ok(Variant::Whole {
                     lead,
                     body,
-                    pend: pend_of(pend, base + piece.len() as u32),
+                    pend: pend_of(pend, base + source.bytes.len() as u32),
                     end,
                 });
             }
@@ -138,25 +141,23 @@ fn end_of(mut lexer: Lexer<'_>) -> Start
 
 /// A piece from one start state.
 pub fn read_variant<A: Algebra>(
-    alloc: Global,
-    algebra: &A,
-    piece: &[u8],
+    source: &JsonSource<'_, A>,
     base: u32,
     start: Start,
 ) -> Result<Variant<A::Atom>, Memory>
-    requires { base + length piece.now ≤ 2 ^ 28 }
-    ensures { IfOk result (HoldsVariant (IsAtomOf A.Algebra algebra.now) start base piece.now) }
+    requires { base + length source.now.bytes.now ≤ 2 ^ 28 }
+    ensures { IfOk result (HoldsVariant (IsAtomOf A.Algebra source.now.algebra.now) start base source.now.bytes.now) }
 {
-    let (lead, lexer) = Lexer::new(piece, base, start);
+    let (lead, lexer) = Lexer::new(source.bytes, base, start);
     match lead {
         Lead::AllRun | Lead::AllText => Ok(Variant::AllLead { end: end_of(lexer) }),
-        Lead::Nothing => if piece.is_empty() {
+        Lead::Nothing => if source.bytes.is_empty() {
             Ok(Variant::AllLead { end: Start::Out })
         } else {
-            read_items(alloc, algebra, piece, base, base, lexer)
+            read_items(source, base, base, lexer)
         },
-        Lead::RunEnds(at) => read_items(alloc, algebra, piece, base, at, lexer),
-        Lead::TextEnds(at) => read_items(alloc, algebra, piece, base, at, lexer),
+        Lead::RunEnds(at) => read_items(source, base, at, lexer),
+        Lead::TextEnds(at) => read_items(source, base, at, lexer),
     }
 }
 
@@ -177,46 +178,40 @@ impl<T: Drop> Variant<T> {
 /// items of the right one.
 pub fn join_items<A: Algebra>(
     body: &mut Body<A::Atom>,
-    alloc: Global,
-    algebra: &A,
-    bytes: &[u8],
+    source: &JsonSource<'_, A>,
     from: u32,
     to: u32,
     behind: Body<A::Atom>,
 ) -> Result<Option<SpanStop>, Memory>
-    requires fits { length bytes.now ≤ 2 ^ 28 }
     requires order { from ≤ to }
-    requires end { to ≤ length bytes.now }
-    requires held { CanMeet (IsAtomOf A.Algebra algebra.now) bytes.now
+    requires end { to ≤ length source.now.bytes.now }
+    requires held { CanMeet (IsAtomOf A.Algebra source.now.algebra.now) source.now.bytes.now
         (shown body.old) (shown behind)
-        from (take (to - from) (drop from bytes.now)) }
-    ensures { IfOk result (λ r. Meets (IsAtomOf A.Algebra algebra.now)
-        bytes.now
-        (shown body.old) (shown behind) (shown body.new) r from (take (to - from) (drop from bytes.now))) }
+        from (take (to - from) (drop from source.now.bytes.now)) }
+    ensures { IfOk result (λ r. Meets (IsAtomOf A.Algebra source.now.algebra.now)
+        source.now.bytes.now
+        (shown body.old) (shown behind) (shown body.new) r from (take (to - from) (drop from source.now.bytes.now))) }
 {
-    let text = &bytes[from as usize..to as usize];
-    match cut_token(body, alloc, algebra, text, from)? {
-        None => join(body, alloc, algebra, bytes, behind),
+    let text = &source.bytes[from as usize..to as usize];
+    match cut_token(body, source.alloc, source.algebra, text, from)? {
+        None => join(body, source, behind),
         Some(halt) => Ok(Some(halt)),
     }
 }
 
 /// Two spans that stand one behind the other. The right one is read from the state in which the left one ends.
 pub fn join_variants<A: Algebra>(
-    alloc: Global,
-    algebra: &A,
-    bytes: &[u8],
+    source: &JsonSource<'_, A>,
     left: Variant<A::Atom>,
     right: Variant<A::Atom>,
 ) -> Result<Variant<A::Atom>, Memory>
-    requires fits { length bytes.now ≤ 2 ^ 28 }
     requires held { (s : Start) × (at : ℕ) × (w : List ℕ) × (x : List ℕ)
-        × HaveUnion (IsAtomOf A.Algebra algebra.now) bytes.now s at w x left
+        × HaveUnion (IsAtomOf A.Algebra source.now.algebra.now) source.now.bytes.now s at w x left
         right }
     ensures { IfOk result (λ v. (s : Start) (at : ℕ) (w x : List ℕ)
-        → HaveUnion (IsAtomOf A.Algebra algebra.now) bytes.now s at w x left
+        → HaveUnion (IsAtomOf A.Algebra source.now.algebra.now) source.now.bytes.now s at w x left
         right
-        → HoldsVariant (IsAtomOf A.Algebra algebra.now) s at (w ++ x) v) }
+        → HoldsVariant (IsAtomOf A.Algebra source.now.algebra.now) s at (w ++ x) v) }
 {
     match left {
         Variant::AllLead { .. } => Ok(right),
@@ -226,27 +221,24 @@ pub fn join_variants<A: Algebra>(
             body,
             pend,
             ..
-        } => join_behind(alloc, algebra, bytes, lead, body, pend, right),
+        } => join_behind(source, lead, body, pend, right),
     }
 }
 
 fn join_behind<A: Algebra>(
-    alloc: Global,
-    algebra: &A,
-    bytes: &[u8],
+    source: &JsonSource<'_, A>,
     lead: u32,
     mut body: Body<A::Atom>,
     from: u32,
     right: Variant<A::Atom>,
 ) -> Result<Variant<A::Atom>, Memory>
-    requires fits { length bytes.now ≤ 2 ^ 28 }
     requires held { (s : Start) × (at : ℕ) × (w : List ℕ) × (x : List ℕ)
-        × Neighbours (IsAtomOf A.Algebra algebra.now) bytes.now s at w x
+        × Neighbours (IsAtomOf A.Algebra source.now.algebra.now) source.now.bytes.now s at w x
         lead (shown body) from right }
     ensures { IfOk result (λ v. (s : Start) (at : ℕ) (w x : List ℕ)
-        → Neighbours (IsAtomOf A.Algebra algebra.now) bytes.now s at w x
+        → Neighbours (IsAtomOf A.Algebra source.now.algebra.now) source.now.bytes.now s at w x
         lead (shown body) from right
-        → HoldsVariant (IsAtomOf A.Algebra algebra.now) s at (w ++ x) v) }
+        → HoldsVariant (IsAtomOf A.Algebra source.now.algebra.now) s at (w ++ x) v) }
 {
     match right {
         Variant::AllLead { end } => Ok(Variant::Whole {
@@ -260,7 +252,7 @@ fn join_behind<A: Algebra>(
             body: behind,
             pend,
             end,
-        } => match join_items(&mut body, alloc, algebra, bytes, from, to, behind)? {
+        } => match join_items(&mut body, source, from, to, behind)? {
             None => Ok(Variant::Whole {
                 lead,
                 body,
@@ -273,7 +265,7 @@ fn join_behind<A: Algebra>(
             lead: to,
             body: behind,
             halt: last,
-        } => match join_items(&mut body, alloc, algebra, bytes, from, to, behind)? {
+        } => match join_items(&mut body, source, from, to, behind)? {
             None => Ok(Variant::Broken {
                 lead,
                 body,

@@ -15,5 +15,5 @@ lengthen_row-requires-clause-items g c κs within =
 pub returns-in-Some-Row : goal.returns-in-Some-Row
 returns-in-Some-Row g c = let own = g.A.Algebra.is_own c.args.algebra.now in let fold = g.A.Algebra.is_fold c.args.algebra.now in let run = g.A.Algebra.is_run c.args.algebra.now in
     IfOk-weaker c.lengthen_row.result _ _
-    (λ r l. row_longer (OwnAtom own fold run) (shown c.args.body.now) (shown c.lengthen_row.new.body) r c.pop.new.self.items c.in-Some-Row.row l.0 c.args.comma c.args.from c.args.atom c.requires.outside (c.in-Some-Row.ensures.items ∙ ap (λ (z : Piece g.row.A-Atom.Denot). c.pop.new.self.items ++ z ∷ []) c.in-Some-Row.field-0-is) l.1 l.2)
+    (λ r l. row_longer (OwnAtom own fold run) (shown c.args.body.now) (shown c.lengthen_row.new.body) r c.pop.new.self.items c.in-Some-Row.row l.0 c.args.value.comma c.args.value.from c.args.value.atom c.requires.outside (c.in-Some-Row.ensures.items ∙ ap (λ (z : Piece g.row.A-Atom.Denot). c.pop.new.self.items ++ z ∷ []) c.in-Some-Row.field-0-is) l.1 l.2)
     c.lengthen_row.ensures

@@ -3,7 +3,7 @@ use Rattle.at_nest.proofs.UnionsHeld.{union_lead, union_stop}
 use Rattle.at_nest.proofs.variants.join_variants.Goals as goal
 
 pub returns-in-AllLead : goal.returns-in-AllLead
-returns-in-AllLead g c = λ s at w x h. union_lead _ c.args.bytes.now s at w x c.args.left c.args.right _ c.in-AllLead.is h
+returns-in-AllLead g c = λ s at w x h. union_lead _ c.args.source.now.bytes.now s at w x c.args.left c.args.right _ c.in-AllLead.is h
 
 pub returns-in-Broken : goal.returns-in-Broken
-returns-in-Broken g c = λ s at w x h. union_stop _ c.args.bytes.now s at w x c.args.left c.args.right _ _ _ c.in-Broken.is h
+returns-in-Broken g c = λ s at w x h. union_stop _ c.args.source.now.bytes.now s at w x c.args.left c.args.right _ _ _ c.in-Broken.is h
