@@ -1,7 +1,7 @@
 -- What lies below a made node is settled, so two nodes with nothing made above them share no block.
 -- For most public calls of the crate, `claim`, `close`, `pass` among them.
-use Rattle.std.proofs.Common.{◌≡◌, ℕ, zero, suc, ◌+◌, ◌-◌, ◌*◌, ◌/◌, ◌<◌, ◌≤◌, List, slice_index, sym, subst, inl, inr, ⊎_elim, arith}
-use native.Mathlib.Decide.{dec_le, ℕ_discrete}
+use Rattle.std.proofs.Common.{◌≡◌, ℕ, zero, suc, ◌+◌, ◌-◌, ◌*◌, ◌/◌, ◌<◌, List, slice_index, sym, subst, inl, inr, ⊎_elim, arith}
+use Rattle.std.proofs.lemmas.Bool.{cases_lt, cases_eq}
 use Rattle.at_crew.specs.Nodes.{IsNode, Made, Settled, IsTop}
 use Rattle.at_crew.specs.Rule.{WordsMarked}
 use Rattle.at_crew.proofs.Tree.{up, up_reaches, Spans, node_pos, node_bound}
@@ -28,15 +28,16 @@ module _ (k : ℕ) (words : List ℕ) (marked : WordsMarked k words) where
   not_below (suc j) n m pos lt e made (inl one) = let r = settled_below j n m pos lt e made in absurd (omega (arith, r.0, one))
   not_below (suc j) n m pos lt e made (inr top) = let r = settled_below j n m pos lt e made in absurd (top.1 r.1)
 
-  apart_when : (l h n l' h' m x : ℕ) → IsNode k l h n → IsNode k l' h' m → Spans k h n x → Spans k h' m x → Made k words n → Made k words m → IsTop k words n → IsTop k words m → Dec (h ≤ h') → n ≡ m
-  apart_when l h n l' h' m x isn ism sn sm maden madem topn topm (yes le) = let e : h' ≡ h + (h' - h) = omega (arith, le) in
-      not_below (h' - h) n m (node_pos k l' h' m ism) (node_bound k l h n isn) (up_reaches k h n m x (h' - h) sn (subst (λ (i : ℕ). Spans k i m x) e sm)) madem topn
-  apart_when l h n l' h' m x isn ism sn sm maden madem topn topm (no gt) = let e : h ≡ h' + (h - h') = omega (arith, gt) in
-      sym (not_below (h - h') m n (node_pos k l h n isn) (node_bound k l' h' m ism) (up_reaches k h' m n x (h - h') sm (subst (λ (i : ℕ). Spans k i n x) e sn)) maden topm)
-
   -- two made nodes that have a block in common, with nothing made above either, are one
   pub apart : (l h n l' h' m x : ℕ) → IsNode k l h n → IsNode k l' h' m → Spans k h n x → Spans k h' m x → Made k words n → Made k words m → IsTop k words n → IsTop k words m → n ≡ m
-  apart l h n l' h' m x isn ism sn sm maden madem topn topm = apart_when l h n l' h' m x isn ism sn sm maden madem topn topm (dec_le h h')
+  apart l h n l' h' m x isn ism sn sm maden madem topn topm = elim (cases_lt h' h) [
+    | inr le ↦
+        let e : h' ≡ h + (h' - h) = omega (arith, le) in
+        not_below (h' - h) n m (node_pos k l' h' m ism) (node_bound k l h n isn) (up_reaches k h n m x (h' - h) sn (subst (λ (i : ℕ). Spans k i m x) e sm)) madem topn
+    | inl gt ↦
+        let e : h ≡ h' + (h - h') = omega (arith, gt) in
+        sym (not_below (h - h') m n (node_pos k l h n isn) (node_bound k l' h' m ism) (up_reaches k h' m n x (h - h') sm (subst (λ (i : ℕ). Spans k i n x) e sn)) maden topm)
+  ]
 
   leaf_span : (x : ℕ) → Spans k 0 (k + x) x
   leaf_span x = (omega arith, omega arith)
@@ -52,8 +53,4 @@ module _ (k : ℕ) (words : List ℕ) (marked : WordsMarked k words) where
 
   -- a node that is not settled has nothing made above it
   pub held_is_top : (n : ℕ) → 0 < n → (¬ Settled k words n) → IsTop k words n
-  held_is_top n pos not = held_when (ℕ_discrete n 1)
-    where
-      held_when : Dec (n ≡ 1) → IsTop k words n
-      held_when (yes e) = inl e
-      held_when (no ne) = inr (omega (arith, pos, ne), λ e. not (under n (omega (arith, pos, ne)) e))
+  held_is_top n pos not = elim (cases_eq n 1) [ inl e ↦ inl e | inr ne ↦ inr (omega (arith, pos, ne), λ e. not (under n (omega (arith, pos, ne)) e)) ]

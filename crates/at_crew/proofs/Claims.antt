@@ -1,8 +1,10 @@
 -- A claim keeps the rule: below k it takes the leaf's slot, and past k it ends the pass.
 -- For most public calls of the crate, `claim`, `close`, `pass` among them.
-use Rattle.std.proofs.Common.{◌≡◌, ℕ, suc, ◌+◌, ◌*◌, ◌/◌, ◌%◌, ◌^◌, ◌<◌, ◌≤◌, ◌⊎◌, Option, Some, None, Bool, true, false, true≢false, List, set, length, sum_by, slice_index, slice_set, refl, sym, ap, ◌∙◌, subst, inl, inr, ⊎_elim, arith, length-set}
+use Rattle.std.proofs.Common.{◌≡◌, ℕ, suc, ◌+◌, ◌*◌, ◌/◌, ◌%◌, ◌^◌, ◌<◌, ◌≤◌, ◌⊎◌, Option, Some, None, true, false, true≢false, List, set, length, sum_by, slice_index, slice_set, refl, sym, ap, ◌∙◌, subst, inl, inr, ⊎_elim, arith, length-set}
 use mathlib.Core.Option.{some, none}
 use lib.ListN.{get_elem?}
+use Rattle.std.proofs.lemmas.Bool.{cases_lt}
+use Rattle.std.proofs.lemmas.Nat.{pow_pos}
 use native.Mathlib.Decide.{dec_le, ℕ_discrete}
 use Rattle.atomic_table.specs.Table.{State, Act, keeps, takes, Valid, Allows, stepped, carried_after, step}
 use Rattle.atomic_table.proofs.Lists.{set_else}
@@ -14,10 +16,10 @@ use Rattle.at_crew.specs.Nodes.{IsNode, first_of, Made, Settled, IsTop}
 use Rattle.at_crew.specs.Views.{one_if, times, held_node, is_at, lives, is_over, holds, claimed, claiming, ending, is_pass, held_of, over_of}
 use Rattle.at_crew.specs.Rule.{OneWhere, PassesCounted, WordsMarked, WorkListed, PartsStored, CrewRule}
 use Rattle.at_crew.specs.Steps.{ClaimTells}
-use Rattle.at_crew.proofs.Tree.{leaf_node, spans_first, node_pos, node_bound, first_small, pow_pos}
+use Rattle.at_crew.proofs.Tree.{leaf_node, spans_first, node_pos, node_bound, first_small}
 use Rattle.at_crew.proofs.Above.{all_claimed}
 use Rattle.at_crew.proofs.Alike.{SameThrees, counted_on, merges_on, rule_on}
-use Rattle.at_crew.proofs.Sums.{sum_at, sum_same, sum_more, sum_gap, hit, miss, times_more, counts_same, counts_zero, word_here, word_else}
+use Rattle.at_crew.proofs.Sums.{one_or_other, one_if_small, sum_at, sum_same, sum_more, sum_gap, hit, miss, times_more, counts_same, counts_zero, word_here, word_else}
 
 pub some-inj : {A : Type 0} {a b : A} → Some a ≡ Some b → a ≡ b
 some-inj {A} {a} {b} e = ap (λ (o : Option A). elim o [ Some x ↦ x | None ↦ a ]) e
@@ -109,26 +111,17 @@ module _ {P F : Type 0} (stands : F → P → ℕ → ℕ → Type 0) (f : F) (k
   leaf_new lt set = ⊎_elim (λ m. omega (arith, m.1)) (λ m. omega (arith, m.0)) (good.marked.below (k + c) (omega (arith, pos)) (omega (arith, lt)) set)
 
   claim_held : c < k → (n : ℕ) → 0 < n → n < 2 * k → OneWhere (Made k words' n × (¬ Settled k words' n)) (sum_by (holds n) (set s.views id (Climbs now)))
-  claim_held lt n p q = cases (ℕ_discrete n (k + c))
-    where
-      cases : Dec (n ≡ k + c) → OneWhere (Made k words' n × (¬ Settled k words' n)) (sum_by (holds n) (set s.views id (Climbs now)))
-      cases (yes e) =
-          let old : sum_by (holds n) s.views ≡ 0 = counts_zero _ _ (λ x. ⊎_elim (λ m. omega (arith, m.1, e)) (λ m. omega (arith, m.0, e)) x.0) (good.listed.held n p q) in
-          let one : holds n (Climbs now) ≡ 1 = hit (k + c) n (sym e) in
-          let more = sum_at (holds n) s.views id (Climbs v) (Climbs now) at in
-          let z = bump.zero_is in
-          inl ((inl (omega (arith, e), omega (arith, e, z)), λ x. leaf_new lt (subst (λ (m : ℕ). Settled k s.words m) e (settled_same k s.words words' (c + 1) bump step_up pos n x))), omega (arith, old, one, more, idle n))
-      cases (no ne) =
-          let none : holds n (Climbs now) ≡ 0 = miss (k + c) n (λ e. ne (sym e)) in
-          counts_same _ _ (sum_by (holds n) s.views) _
-          (λ x. (made_more k s.words words' (c + 1) bump step_up n p x.0, λ y. x.1 (settled_same k s.words words' (c + 1) bump step_up pos n y)))
-          (λ x. (made_less k s.words words' (c + 1) bump step_up n p (side (dec_le (suc n) (k + c))) x.0, λ y. x.1 (settled_again k s.words words' (c + 1) bump step_up pos n y)))
-          (sum_same (holds n) s.views id (Climbs v) (Climbs now) at (none ∙ sym (idle n)))
-          (good.listed.held n p q)
-        where
-          side : Dec (suc n ≤ k + c) → (n < k + c) ⊎ (k + (c + 1) ≤ n)
-          side (yes d) = inl d
-          side (no d) = inr (omega (arith, d, ne))
+  claim_held lt n p q = one_or_other (λ i. OneWhere (Made k words' i × (¬ Settled k words' i)) (sum_by (holds i) (set s.views id (Climbs now)))) (k + c) n
+      (let old : sum_by (holds (k + c)) s.views ≡ 0 = counts_zero _ _ (λ x. ⊎_elim (λ m. omega (arith, m.1)) (λ m. omega (arith, m.0)) x.0) (good.listed.held (k + c) (omega (arith, pos)) (omega (arith, lt))) in
+      let one : holds (k + c) (Climbs now) ≡ 1 = hit (k + c) (k + c) refl in
+      let more = sum_at (holds (k + c)) s.views id (Climbs v) (Climbs now) at in
+      let z = bump.zero_is in
+      inl ((inl (omega arith, omega (arith, z)), λ x. leaf_new lt (settled_same k s.words words' (c + 1) bump step_up pos (k + c) x)), omega (arith, old, one, more, idle (k + c))))
+      (λ ne. counts_same _ _ (sum_by (holds n) s.views) _
+      (λ x. (made_more k s.words words' (c + 1) bump step_up n p x.0, λ y. x.1 (settled_same k s.words words' (c + 1) bump step_up pos n y)))
+      (λ x. (made_less k s.words words' (c + 1) bump step_up n p (elim (cases_lt n (k + c)) [ inl d ↦ inl d | inr ge ↦ inr (omega (arith, ge, ne)) ]) x.0, λ y. x.1 (settled_again k s.words words' (c + 1) bump step_up pos n y)))
+      (sum_same (holds n) s.views id (Climbs v) (Climbs now) at (miss (k + c) n (λ e. ne (sym e)) ∙ sym (idle n)))
+      (good.listed.held n p q))
 
   claim_listed : c < k → WorkListed k words' (set s.views id (Climbs now))
   claim_listed lt = record {
@@ -209,11 +202,7 @@ module _ {P F : Type 0} (stands : F → P → ℕ → ℕ → Type 0) (f : F) (k
     where
       over_lives : (u : View F) → is_over u ≤ lives u
       over_lives Spent = omega arith
-      over_lives (Climbs u) = bit u.over
-        where
-          bit : (b : Bool) → one_if b ≤ 1
-          bit true = omega arith
-          bit false = omega arith
+      over_lives (Climbs u) = one_if_small u.over
       over_lives (Leads u) = omega arith
 
   pub below_last : (x : ℕ) → v.last ≡ Some x → x < c

@@ -1,8 +1,9 @@
 -- Once no pass is away, and one was made, the whole lies in slot 0, and all blocks and inner nodes stand in the chief's lists.
 -- For `close` and `run_crew`.
-use Rattle.std.proofs.Common.{◌≡◌, ◌≢◌, ℕ, zero, suc, ◌+◌, ◌-◌, ◌*◌, ◌/◌, ◌^◌, ◌<◌, ◌≤◌, ◌==◌, Option, Some, None, Bool, true, false, true≢false, List, [], length, sum_by, slice_index, refl, sym, ap, ◌∙◌, subst, inl, inr, ⊎_elim, arith}
+use Rattle.std.proofs.Common.{◌≡◌, ℕ, zero, suc, ◌+◌, ◌-◌, ◌*◌, ◌/◌, ◌^◌, ◌<◌, ◌≤◌, ◌==◌, ◌⊎◌, Option, Some, None, true, true≢false, List, [], length, sum_by, slice_index, refl, sym, ap, ◌∙◌, subst, inl, inr, ⊎_elim, arith}
 use mathlib.Core.Option.{some, some-injective}
 use lib.ListN.{get_elem?}
+use mathlib.Core.Logic.Dec.{and}
 use native.Mathlib.Decide.{dec_le, ℕ_discrete}
 use Rattle.atomic_table.specs.Table.{State, Final, Seen}
 use Rattle.at_crew.specs.declared.view.HeldNode.{HeldNode}
@@ -10,10 +11,10 @@ use Rattle.at_crew.specs.declared.view.Leader.{Leader}
 use Rattle.at_crew.specs.declared.view.View.{View}
 use Rattle.at_crew.specs.declared.view.View.TheVariants.{Spent, Climbs, Leads}
 use Rattle.at_crew.specs.Nodes.{IsNode, first_of, end_of, bit_of, Made, Settled}
-use Rattle.at_crew.specs.Views.{one_if, times, is_at, leads, lives, made, back, holds, claimed, merged, is_chief}
+use Rattle.at_crew.specs.Views.{times, is_at, leads, lives, made, back, holds, claimed, merged, is_chief}
 use Rattle.at_crew.specs.Rule.{OneWhere, CrewRule}
 use Rattle.at_crew.proofs.Tree.{two, node_pos, node_bound, leaf_is_big, inner_is_small, left_node, right_node, root_node}
-use Rattle.at_crew.proofs.Sums.{sum_le, sum_only, counts_same, counts_one}
+use Rattle.at_crew.proofs.Sums.{one_if_small, sum_le, sum_only, counts_same, counts_one}
 use Rattle.at_crew.proofs.Claims.{some_blocks}
 use Rattle.at_crew.proofs.Hires.{all_made, all_back}
 
@@ -29,19 +30,15 @@ on_level (suc d) n pos lt = upper d n lt (dec_le (suc n) (2 ^ (d + 1))) (λ a. o
 pub some_node : (k d n : ℕ) → k ≡ 2 ^ d → 0 < n → n < 2 * k → (l : ℕ) × (h : ℕ) × IsNode k l h n
 some_node k d n e pos lt = let t = two d in let r = on_level d n pos (omega (arith, e, t, lt)) in let i : d ≡ r.0 + (d - r.0) = omega (arith, r.1) in (r.0, d - r.0, (e ∙ ap (λ (j : ℕ). 2 ^ j) i, r.2, r.3))
 
-settled_dec : (k : ℕ) (words : List ℕ) (n : ℕ) → Dec (Settled k words n)
-settled_dec k words n = root (ℕ_discrete n 1) (ℕ_discrete (slice_index words k) 1)
-  where
-    word : Dec (slice_index words (n / 2) ≡ bit_of n) → Dec (slice_index words (n / 2) ≡ 3) → Dec (suc 1 ≤ n) → n ≢ 1 → Dec (Settled k words n)
-    word (yes a) b (yes lt) ne = yes (inr (lt, inl a))
-    word (no a) (yes b) (yes lt) ne = yes (inr (lt, inr b))
-    word (no a) (no b) (yes lt) ne = no (λ s. ⊎_elim (λ x. ne x.0) (λ x. ⊎_elim a b x.1) s)
-    word a b (no lt) ne = no (λ s. ⊎_elim (λ x. ne x.0) (λ x. lt x.0) s)
+dec_either : {A B : Type 0} → Dec A → Dec B → Dec (A ⊎ B)
+dec_either (yes a) b = yes (inl a)
+dec_either (no n) (yes b) = yes (inr b)
+dec_either (no n) (no m) = no (⊎_elim n m)
 
-    root : Dec (n ≡ 1) → Dec (slice_index words k ≡ 1) → Dec (Settled k words n)
-    root (yes e) (yes w) = yes (inl (e, w))
-    root (yes e) (no w) = no (λ s. ⊎_elim (λ x. w x.1) (λ x. omega (arith, e, x.0)) s)
-    root (no e) w = word (ℕ_discrete (slice_index words (n / 2)) (bit_of n)) (ℕ_discrete (slice_index words (n / 2)) 3) (dec_le (suc 1) n) e
+settled_dec : (k : ℕ) (words : List ℕ) (n : ℕ) → Dec (Settled k words n)
+settled_dec k words n =
+    let word : ℕ = slice_index words (n / 2) in
+    dec_either (and (ℕ_discrete n 1) (ℕ_discrete (slice_index words k) 1)) (and (dec_le (suc 1) n) (dec_either (ℕ_discrete word (bit_of n)) (ℕ_discrete word 3)))
 
 module _ {P F : Type 0} (stands : F → P → ℕ → ℕ → Type 0) (f : F) (k : ℕ) (s : State (Option P) (View F)) (good : CrewRule stands f k s) (id : ℕ) (h : Leader F) (at : get_elem? s.views id ≡ some (Leads h))
     (home : h.made ≡ h.back) (some_made : 0 < h.made) where
@@ -54,13 +51,9 @@ module _ {P F : Type 0} (stands : F → P → ℕ → ℕ → Type 0) (f : F) (k
   none_held : (n : ℕ) → sum_by (holds n) s.views ≡ 0
   none_held n = let a = sum_le (holds n) lives le s.views in let b = none_lives in omega (arith, a, b)
     where
-      bit : (b : Bool) → one_if b ≤ 1
-      bit true = omega arith
-      bit false = omega arith
-
       held : (o : Option HeldNode) → is_at n o ≤ 1
       held None = omega arith
-      held (Some p) = bit (p.node == n)
+      held (Some p) = one_if_small (p.node == n)
 
       le : (v : View F) → holds n v ≤ lives v
       le Spent = omega arith

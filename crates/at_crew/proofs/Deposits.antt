@@ -132,19 +132,14 @@ module _ {P F : Type 0} (stands : F → P → ℕ → ℕ → Type 0) (f : F) (k
   deposits_at deep = ⊎_elim (deposits_first deep) (deposits_second deep) (found_words k s.words n good.marked deep (node_bound k mine'.level h n mine'.is) mine'.loose)
 
 module _ {P F : Type 0} (stands : F → P → ℕ → ℕ → Type 0) (count : F → ℕ) (f : F) where
-  deposits_of : (size id : ℕ) (v : Climber F) (n h : ℕ) (x : P) → v.held ≡ Some (held_node n h) → 1 < n → stands f x (first_of size h n) (end_of size h n)
-      → Allows (CrewRule stands f (count f)) size id (Climbs v, carried size h n (Some x)) (n / 2) (λ u. bit_or u (bit_of n)) (DepositTells stands count (step size (n / 2) (bit_of n) 0 none) (Climbs v, carried size h n (Some x)))
-  deposits_of size id v n h x held deep stood s good len at lt = let e : count f ≡ size = sym good.deep ∙ len in
-      subst (λ (k : ℕ). stands f x (first_of k h n) (end_of k h n) → (w : View F) × (a : Act (Option P)) × Valid s.homes (carried k h n (Some x)) a × CrewRule stands f (count f) (stepped s (n / 2) (bit_or (slice_index s.words (n / 2)) (bit_of n)) id (carried k h n (Some x)) w a)
-      × DepositTells stands count (step k (n / 2) (bit_of n) 0 none) (Climbs v, carried k h n (Some x)) (slice_index s.words (n / 2)) (w, carried_after (carried k h n (Some x)) a)) e
-      (λ stood'. deposits_at stands f (count f) count refl s good id v at n h held x stood' deep) stood
-
-  pub deposits : (size id : ℕ) (w : View F) (me : List (ℕ × Option P)) (n h : ℕ) (x : P) → held_of w ≡ Some (held_node n h) → me ≡ carried size h n (Some x) → 1 < n → stands f x (first_of size h n) (end_of size h n)
+  pub deposits : (size b id : ℕ) (w : View F) (me : List (ℕ × Option P)) (n h : ℕ) (x : P) → size ≡ b → held_of w ≡ Some (held_node n h) → me ≡ carried b h n (Some x) → 1 < n → stands f x (first_of b h n) (end_of b h n)
       → Allows (CrewRule stands f (count f)) size id (w, me) (n / 2) (λ u. bit_or u (bit_of n)) (DepositTells stands count (step size (n / 2) (bit_of n) 0 none) (w, me))
-  deposits size id (Climbs v) me n h x held is deep stood s good len at lt = subst (λ (m : List (ℕ × Option P)). (w : View F) × (a : Act (Option P)) × Valid s.homes m a × CrewRule stands f (count f) (stepped s (n / 2) (bit_or (slice_index s.words (n / 2)) (bit_of n)) id m w a)
-      × DepositTells stands count (step size (n / 2) (bit_of n) 0 none) (Climbs v, m) (slice_index s.words (n / 2)) (w, carried_after m a)) (sym is)
-      (deposits_of size id v n h x held deep stood s good len at lt)
-  deposits size id _ me n h x held is deep stood s good len at lt = absurd (some≢none (sym held))
+  deposits size b id (Climbs v) me n h x e held is deep stood s good len at lt = let all : count f ≡ size = sym good.deep ∙ len in
+      let stood' = subst (λ (k : ℕ). stands f x (first_of k h n) (end_of k h n)) (sym (all ∙ e)) stood in
+      subst (λ (z : ℕ × List (ℕ × Option P)). (w : View F) × (a : Act (Option P)) × Valid s.homes z.1 a × CrewRule stands f (count f) (stepped s (n / 2) (bit_or (slice_index s.words (n / 2)) (bit_of n)) id z.1 w a)
+      × DepositTells stands count (step z.0 (n / 2) (bit_of n) 0 none) (Climbs v, z.1) (slice_index s.words (n / 2)) (w, carried_after z.1 a)) (λ i. (all i, (ap (λ (k : ℕ). carried k h n (Some x)) (all ∙ e) ∙ sym is) i))
+      (deposits_at stands f (count f) count refl s good id v at n h held x stood' deep)
+  deposits size b id _ me n h x e held is deep stood s good len at lt = absurd (some≢none (sym held))
 
   -- the root
   root_homes_at : (s : State (Option P) (View F)) → CrewRule stands f (count f) s → (id : ℕ) (v : Climber F) → get_elem? s.views id ≡ some (Climbs v) → (h : ℕ) (x : P) → v.held ≡ Some (held_node 1 h) → stands f x (first_of (count f) h 1) (end_of (count f) h 1)
@@ -164,21 +159,11 @@ module _ {P F : Type 0} (stands : F → P → ℕ → ℕ → Type 0) (count : F
         λ i. (Climbs (resting v), g.2 i),
       )
 
-  pub root_homes : (size id : ℕ) (w : View F) (me : List (ℕ × Option P)) (h : ℕ) (x : P) → held_of w ≡ Some (held_node 1 h) → me ≡ carried size h 1 (Some x) → stands f x (first_of size h 1) (end_of size h 1)
-      → Allows (CrewRule stands f (count f)) size id (w, me) size (λ u. bit_or u 1) (RootHomeTells (step size size 1 0 none) (w, me))
-  root_homes size id (Climbs v) me h x held is stood s good len at lt = let e : count f ≡ size = sym good.deep ∙ len in
-      subst (λ (m : List (ℕ × Option P)). (w : View F) × (a : Act (Option P)) × Valid s.homes m a × CrewRule stands f (count f) (stepped s size (bit_or (slice_index s.words size) 1) id m w a) × (me_of w (carried_after m a) ≡ me_of (Climbs (resting v)) [])) (sym is)
-      (subst (λ (k : ℕ). stands f x (first_of k h 1) (end_of k h 1) → (w : View F) × (a : Act (Option P)) × Valid s.homes (carried k h 1 (Some x)) a × CrewRule stands f (count f) (stepped s k (bit_or (slice_index s.words k) 1) id (carried k h 1 (Some x)) w a) × (me_of w (carried_after (carried k h 1 (Some x)) a) ≡ me_of (Climbs (resting v)) [])) e
-      (λ stood'. root_homes_at s good id v at h x held stood') stood)
-  root_homes size id _ me h x held is stood s good len at lt = absurd (some≢none (sym held))
-
-  -- where the size are as many as b says
-  pub root_homes_sized : (size b id : ℕ) (w : View F) (me : List (ℕ × Option P)) (h : ℕ) (x : P) → size ≡ b → held_of w ≡ Some (held_node 1 h) → me ≡ carried b h 1 (Some x) → stands f x (first_of b h 1) (end_of b h 1)
+  pub root_homes : (size b id : ℕ) (w : View F) (me : List (ℕ × Option P)) (h : ℕ) (x : P) → size ≡ b → held_of w ≡ Some (held_node 1 h) → me ≡ carried b h 1 (Some x) → stands f x (first_of b h 1) (end_of b h 1)
       → Allows (CrewRule stands f (count f)) size id (w, me) b (λ u. bit_or u 1) (RootHomeTells (step size b 1 0 none) (w, me))
-  root_homes_sized size b id w me h x e held is stood = subst (λ (q : ℕ). me ≡ carried q h 1 (Some x) → stands f x (first_of q h 1) (end_of q h 1) → Allows (CrewRule stands f (count f)) size id (w, me) q (λ u. bit_or u 1) (RootHomeTells (step size q 1 0 none) (w, me))) e
-      (λ is' stood'. root_homes size id w me h x held is' stood') is stood
-
-  pub deposits_sized : (size b id : ℕ) (w : View F) (me : List (ℕ × Option P)) (n h : ℕ) (x : P) → size ≡ b → held_of w ≡ Some (held_node n h) → me ≡ carried b h n (Some x) → 1 < n → stands f x (first_of b h n) (end_of b h n)
-      → Allows (CrewRule stands f (count f)) size id (w, me) (n / 2) (λ u. bit_or u (bit_of n)) (DepositTells stands count (step size (n / 2) (bit_of n) 0 none) (w, me))
-  deposits_sized size b id w me n h x e held is deep stood = subst (λ (q : ℕ). me ≡ carried q h n (Some x) → stands f x (first_of q h n) (end_of q h n) → Allows (CrewRule stands f (count f)) size id (w, me) (n / 2) (λ u. bit_or u (bit_of n)) (DepositTells stands count (step size (n / 2) (bit_of n) 0 none) (w, me))) e
-      (λ is' stood'. deposits size id w me n h x held is' deep stood') (is) (stood)
+  root_homes size b id (Climbs v) me h x e held is stood s good len at lt = let all : count f ≡ b = sym good.deep ∙ len ∙ e in
+      let stood' = subst (λ (k : ℕ). stands f x (first_of k h 1) (end_of k h 1)) (sym all) stood in
+      subst (λ (z : ℕ × List (ℕ × Option P)). (w : View F) × (a : Act (Option P)) × Valid s.homes z.1 a × CrewRule stands f (count f) (stepped s z.0 (bit_or (slice_index s.words z.0) 1) id z.1 w a)
+      × (me_of w (carried_after z.1 a) ≡ me_of (Climbs (resting v)) [])) (λ i. (all i, (ap (λ (k : ℕ). carried k h 1 (Some x)) all ∙ sym is) i))
+      (root_homes_at s good id v at h x held stood')
+  root_homes size b id _ me h x e held is stood s good len at lt = absurd (some≢none (sym held))

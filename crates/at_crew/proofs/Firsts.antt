@@ -14,6 +14,7 @@ use Rattle.at_crew.specs.Views.{held_node, resting}
 use Rattle.at_crew.specs.Rule.{CrewRule}
 use Rattle.at_crew.proofs.Tree.{node_bound, two_children, sibling_bit}
 use Rattle.at_crew.proofs.Above.{held_is_top}
+use Rattle.at_crew.proofs.Sums.{one_or_other}
 use Rattle.at_crew.proofs.Rests.{Holds, holds_node, Settles, rest_kept}
 use Rattle.at_crew.proofs.Turns.{Turned, Laid}
 
@@ -55,13 +56,9 @@ module _ {P F : Type 0} (stands : F → P → ℕ → ℕ → Type 0) (f : F) (k
     settled_same = λ m ne lt. settled_same m ne;
     settled_again = λ m lt. settled_again m;
     settled_now = inr (deep, inl turn.here);
-    two_bits = λ m p lt. bits m p lt (ℕ_discrete m (n / 2));
+    two_bits = λ m p lt. one_or_other (λ i. slice_index words' i < 4) (n / 2) m (let q = turn.here in omega (arith, q)) (λ ne. (let a = good.marked.two_bits m p lt in let b = turn.others m ne in omega (arith, a, b)));
     one_bit = (let a = good.marked.one_bit in let b = root_word in omega (arith, a, b));
   }
-    where
-      bits : (m : ℕ) → 0 < m → m < k → Dec (m ≡ n / 2) → slice_index words' m < 4
-      bits m p lt (yes e) = let q = turn.here in let w : slice_index words' m ≡ slice_index words' (n / 2) = ap (slice_index words') e in omega (arith, q, w)
-      bits m p lt (no ne) = let a = good.marked.two_bits m p lt in let b = turn.others m ne in omega (arith, a, b)
 
   pub first_kept : (homes' : List (maybe.Option (Option P))) → Laid k h n s.homes homes' → (x : P) → get_elem? homes' (first_of k h n) ≡ some (some (Some x)) → stands f x (first_of k h n) (end_of k h n)
       → length words' ≡ length s.words → CrewRule stands f k record { words = words'; homes = homes'; views = set s.views id (Climbs (resting v)) }

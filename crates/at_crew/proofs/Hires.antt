@@ -3,6 +3,7 @@
 use Rattle.std.proofs.Common.{◌≡◌, ◌≢◌, ℕ, ◌+◌, ◌<◌, ◌≤◌, min, None, true, true≢false, List, [], ◌∷◌, ◌++◌, set, sum_by, slice_index, refl, sym, ap, ◌∙◌, subst, ⊎_elim, arith}
 use mathlib.Core.Option.{some}
 use lib.ListN.{get_elem?}
+use Rattle.std.proofs.lemmas.List.Sums.{sum_by_push}
 use native.Mathlib.Decide.{ℕ_discrete}
 use Rattle.atomic_table.specs.Table.{Splits, Joins}
 use Rattle.atomic_table.proofs.Lists.{at_set, at_snoc, set_else}
@@ -12,7 +13,7 @@ use Rattle.at_crew.specs.declared.view.View.{View}
 use Rattle.at_crew.specs.declared.view.View.TheVariants.{Spent, Climbs, Leads}
 use Rattle.at_crew.specs.Views.{one_if, times, is_at, leads, lives, is_over, made, back, has_number, holds, claimed, merged, newcomer, hires, hired, gathers, is_chief, is_pass, over_of}
 use Rattle.at_crew.specs.Rule.{Knows, PassesCounted, WorkListed, CrewRule}
-use Rattle.at_crew.proofs.Sums.{sum_at, sum_more, sum_ge, sum_only, sum_zeros, sum_push, hit, miss, times_both, counts_same}
+use Rattle.at_crew.proofs.Sums.{sum_at, sum_more, sum_ge, sum_only, sum_zeros, hit, miss, times_both, counts_same}
 use Rattle.at_crew.proofs.Alike.{each_set}
 use Rattle.at_crew.proofs.Claims.{some≢none}
 
@@ -32,21 +33,9 @@ module _ {P F : Type 0} (stands : F → P → ℕ → ℕ → Type 0) (f : F) (k
   hires_at : (id : ℕ) (h : Leader F) → h.made < 64 → Splits (CrewRule stands f k) id (Leads h) (hires (Leads h)) (hired (Leads h))
   hires_at id h few s good at = record { power = good.power; small = good.small; wide = good.wide; deep = good.deep; counted = counted; marked = good.marked; listed = listed; stored = good.stored }
     where
-      g : PassesCounted f k (slice_index s.words 0) s.views
-      g = good.counted
-
-      new : View F
-      new = hires (Leads h)
-
-      pass : View F
-      pass = Climbs (newcomer h.facts h.made)
-
-      after : List (View F)
-      after = set s.views id (hires (Leads h)) ++ Climbs (newcomer h.facts h.made) ∷ []
-
       -- n more by the chief's new view, and m by the pass
       sums : (q : View F → ℕ) (n m : ℕ) → q (hires (Leads h)) ≡ q (Leads h) + n → q (Climbs (newcomer h.facts h.made)) ≡ m → sum_by q (set s.views id (hires (Leads h)) ++ Climbs (newcomer h.facts h.made) ∷ []) ≡ sum_by q s.views + n + m
-      sums q n m e e' = let a = sum_more q n s.views id (Leads h) (hires (Leads h)) at e in let b = sum_push q (set s.views id (hires (Leads h))) (Climbs (newcomer h.facts h.made)) in omega (arith, a, b, e')
+      sums q n m e e' = let a = sum_more q n s.views id (Leads h) (hires (Leads h)) at e in let b = sum_by_push q (set s.views id (hires (Leads h))) (Climbs (newcomer h.facts h.made)) in omega (arith, a, b, e')
 
       plain : (q : View F → ℕ) → q (hires (Leads h)) ≡ q (Leads h) → q (Climbs (newcomer h.facts h.made)) ≡ 0 → sum_by q (set s.views id (hires (Leads h)) ++ Climbs (newcomer h.facts h.made) ∷ []) ≡ sum_by q s.views
       plain q e e' = let a = sums q 0 0 (omega (arith, e)) e' in omega (arith, a)

@@ -1,7 +1,7 @@
 -- A pass that puts its part home, into its node's slot, and holds nothing then keeps the rule.
 -- For `claim`, `run_crew`, `settle` and `work`.
 use Rattle.std.proofs.Common.{◌≡◌, ◌≢◌, ℕ, ◌*◌, ◌/◌, ◌<◌, Option, Some, List, set, length, sum_by, slice_index, refl, sym, ap, ◌∙◌, subst, inl, inr, arith}
-use mathlib.Core.Option.{some, none}
+use mathlib.Core.Option.{some}
 use mathlib.Core.Option as maybe
 use lib.ListN.{get_elem?}
 use native.Mathlib.Decide.{ℕ_discrete}
@@ -15,7 +15,7 @@ use Rattle.at_crew.specs.Rule.{OneWhere, PassesCounted, WordsMarked, WorkListed,
 use Rattle.at_crew.proofs.Tree.{spans_first, node_pos, node_bound, one_height}
 use Rattle.at_crew.proofs.Above.{apart, all_claimed}
 use Rattle.at_crew.proofs.Alike.{SameThrees, counted_on, claims_on, merges_on, rule_on}
-use Rattle.at_crew.proofs.Sums.{sum_same, sum_less, sum_ge, hit, miss, counts_same, counts_one, counts_yes}
+use Rattle.at_crew.proofs.Sums.{one_or_other, sum_same, sum_less, sum_ge, hit, miss, counts_same, counts_one, counts_yes}
 use Rattle.at_crew.proofs.Claims.{some≢none}
 use Rattle.at_crew.proofs.Turns.{Laid}
 
@@ -64,23 +64,20 @@ module _ {P F : Type 0} (stands : F → P → ℕ → ℕ → Type 0) (f : F) (k
   top_same m lt (inr x) = inr (x.0, λ y. x.1 ((turn.threes (m / 2) (omega (arith, x.0)) (omega (arith, lt))).1 y))
 
   rest_marked : WordsMarked k words'
-  rest_marked = record { two_bits = turn.two_bits; one_bit = turn.one_bit; below = λ m p lt set. below m p lt set (ℕ_discrete m n) }
-    where
-      below : (m : ℕ) → 0 < m → m < 2 * k → Settled k words' m → Dec (m ≡ n) → Made k words' m
-      below m p lt set (yes e) = subst (λ (i : ℕ). Made k words' i) (sym e) (made_again n n_pos mine.made)
-      below m p lt set (no ne) = made_again m p (good.marked.below m p lt (turn.settled_same m ne lt set))
+  rest_marked = record {
+    two_bits = turn.two_bits;
+    one_bit = turn.one_bit;
+    below = λ m p lt. one_or_other (λ i. Settled k words' i → Made k words' i) n m (λ set. made_again n n_pos mine.made) (λ ne set. made_again m p (good.marked.below m p lt (turn.settled_same m ne lt set)));
+  }
 
   rest_held : (m : ℕ) → 0 < m → m < 2 * k → OneWhere (Made k words' m × (¬ Settled k words' m)) (sum_by (holds m) (set s.views id (Climbs (resting v))))
-  rest_held m p lt = cases (ℕ_discrete m n)
-    where
-      cases : Dec (m ≡ n) → OneWhere (Made k words' m × (¬ Settled k words' m)) (sum_by (holds m) (set s.views id (Climbs (resting v))))
-      cases (yes e) = let old : sum_by (holds n) s.views ≡ 1 = counts_one _ _ (mine.made, mine.loose) (good.listed.held n n_pos (node_bound k mine.level h n mine.is)) in
-          let less = sum_less (holds n) 1 s.views id (Climbs v) (Climbs (resting v)) at (ap (is_at n) held ∙ hit n n refl) in
-          let none : sum_by (holds n) (set s.views id (Climbs (resting v))) ≡ 0 = omega (arith, old, less) in
-          subst (λ (i : ℕ). OneWhere (Made k words' i × (¬ Settled k words' i)) (sum_by (holds i) (set s.views id (Climbs (resting v))))) (sym e) (inr ((λ x. x.1 turn.settled_now), none))
-      cases (no ne) = counts_same _ _ (sum_by (holds m) s.views) _
-          (λ x. (made_again m p x.0, λ y. x.1 (turn.settled_same m ne lt y))) (λ x. (made_same m p x.0, λ y. x.1 (turn.settled_again m lt y)))
-          (sum_same (holds m) s.views id (Climbs v) (Climbs (resting v)) at (sym (ap (is_at m) held ∙ miss n m (λ e. ne (sym e))))) (good.listed.held m p lt)
+  rest_held m p lt = one_or_other (λ i. OneWhere (Made k words' i × (¬ Settled k words' i)) (sum_by (holds i) (set s.views id (Climbs (resting v))))) n m
+      (let old : sum_by (holds n) s.views ≡ 1 = counts_one _ _ (mine.made, mine.loose) (good.listed.held n n_pos (node_bound k mine.level h n mine.is)) in
+      let less = sum_less (holds n) 1 s.views id (Climbs v) (Climbs (resting v)) at (ap (is_at n) held ∙ hit n n refl) in
+      inr ((λ x. x.1 turn.settled_now), omega (arith, old, less)))
+      (λ ne. counts_same _ _ (sum_by (holds m) s.views) _
+      (λ x. (made_again m p x.0, λ y. x.1 (turn.settled_same m ne lt y))) (λ x. (made_same m p x.0, λ y. x.1 (turn.settled_again m lt y)))
+      (sum_same (holds m) s.views id (Climbs v) (Climbs (resting v)) at (sym (ap (is_at m) held ∙ miss n m (λ e. ne (sym e))))) (good.listed.held m p lt))
 
   rest_listed : WorkListed k words' (set s.views id (Climbs (resting v)))
   rest_listed = record {

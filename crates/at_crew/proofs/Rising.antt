@@ -1,12 +1,13 @@
 -- A pass's numbers rise: what it claimed is at most its last number, and less than the next.
 -- For `claim`, `run_crew`, `settle` and `work`.
-use Rattle.std.proofs.Common.{◌≡◌, ◌∙◌, ℕ, ◌+◌, ◌-◌, ◌<◌, ◌≤◌, List, [], ◌∷◌, ◌++◌, All, Option, Some, None, refl, ap, sym, subst, ⊎_elim, arith}
+use Rattle.std.proofs.Common.{◌≡◌, ◌∙◌, ℕ, ◌+◌, ◌-◌, ◌<◌, ◌≤◌, List, [], All, Option, Some, None, refl, ap, sym, subst, ⊎_elim, arith}
 use Rattle.std.proofs.lemmas.List.Elements.{All-push}
 use Rattle.atomic_table.specs.Table.{Me, Step}
 use Rattle.at_crew.specs.declared.view.View.{View}
 use Rattle.at_crew.specs.declared.view.View.TheVariants.{Spent, Climbs}
 use Rattle.at_crew.specs.Steps.{ClaimTells}
 use Rattle.at_crew.specs.Views.{claimed, last_of, adds, rests}
+use Rattle.at_crew.proofs.Claims.{some-inj}
 use Rattle.at_crew.proofs.Deposits.{me_of}
 
 -- how many numbers below k are above the last one
@@ -19,14 +20,6 @@ module _ {P F : Type 0} (count : F → ℕ) (s : Step (Option P)) (m : List (ℕ
   claim_last (Climbs v) told = told.2
   claim_last _ told = absurd told
 
-  pub claim_below : (w : View F) → ClaimTells count s (w, m) n w' → n < s.slots → claimed w'.0 ≡ claimed w ++ n ∷ []
-  claim_below (Climbs v) told lt = ⊎_elim (λ y. ap (λ q. claimed q.0) y.1) (λ y. absurd (omega (arith, y.0, lt))) told.3
-  claim_below _ told lt = absurd told
-
-  pub claim_past : (w : View F) → ClaimTells count s (w, m) n w' → s.slots ≤ n → claimed w'.0 ≡ claimed w
-  claim_past (Climbs v) told le = ⊎_elim (λ y. absurd (omega (arith, y.0, le))) (λ y. ap (λ q. claimed q.0) y.1) told.3
-  claim_past _ told le = absurd told
-
 -- all are less than what is more than the last
 pub all_less : (last : Option ℕ) (cs : List ℕ) (n : ℕ) → ((x : ℕ) → last ≡ Some x → All (λ m. m ≤ x) cs) → (last ≡ None → cs ≡ []) → ((x : ℕ) → last ≡ Some x → x < n) → All (λ m. m < n) cs
 all_less None cs n rising none more = subst (All (λ m. m < n)) (sym (none refl)) (λ k d lt. absurd (omega (arith, lt)))
@@ -35,9 +28,19 @@ all_less (Some x) cs n rising none more = λ k d lt. (let a = rising x refl k d 
 pub all_at_most : (n : ℕ) (cs : List ℕ) → All (λ m. m < n) cs → All (λ m. m ≤ n) cs
 all_at_most n cs all = λ k d lt. (let a = all k d lt in omega (arith, a))
 
--- the claimed number joins those below it
-pub rises_with : (n : ℕ) (cs cs' : List ℕ) → All (λ m. m < n) cs → cs' ≡ cs ++ n ∷ [] → All (λ m. m ≤ n) cs'
-rises_with n cs cs' all e = subst (All (λ m. m ≤ n)) (sym e) (All-push (λ m. m ≤ n) cs n (all_at_most n cs all) (omega arith))
+-- what was claimed before a claim is less than the number that it found, and what was claimed behind it is at most that
+module _ {P F : Type 0} (count : F → ℕ) (s : Step (Option P)) (m : List (ℕ × Option P)) (n : ℕ) (w' : Me (Option P) (View F)) (w : View F) (told : ClaimTells count s (w, m) n w') (last : Option ℕ) (is : last_of w ≡ last)
+    (rising : (x : ℕ) → last ≡ Some x → All (λ y. y ≤ x) (claimed w)) (unclaimed : last ≡ None → claimed w ≡ []) where
+  pub claim_more : All (λ y. y < n) (claimed w)
+  claim_more = all_less last (claimed w) n rising unclaimed (λ x e. claim_last count s m n w' w told x (is ∙ e))
+
+  claimed_then : (w : View F) → ClaimTells count s (w, m) n w' → All (λ y. y < n) (claimed w) → All (λ y. y ≤ n) (claimed w'.0)
+  claimed_then (Climbs v) told less = let all = all_at_most n v.claimed less in
+      ⊎_elim (λ y. subst (All (λ x. x ≤ n)) (sym (ap (λ (q : Me (Option P) (View F)). claimed q.0) y.1)) (All-push (λ x. x ≤ n) v.claimed n all (omega arith))) (λ y. subst (All (λ x. x ≤ n)) (sym (ap (λ (q : Me (Option P) (View F)). claimed q.0) y.1)) all) told.3
+  claimed_then _ told less = absurd told
+
+  pub claim_rises : (x : ℕ) → Some n ≡ Some x → All (λ y. y ≤ x) (claimed w'.0)
+  claim_rises x e = subst (λ (k : ℕ). All (λ y. y ≤ k) (claimed w'.0)) (some-inj e) (claimed_then w told claim_more)
 
 -- what settles a part claims nothing
 pub settled_same : {P F : Type 0} (old put new : Me (Option P) (View F)) (ns : List ℕ) {slots : List (ℕ × Option P)} → put ≡ me_of old.0 slots → new.0 ≡ adds ns (rests put.0) → claimed new.0 ≡ claimed old.0

@@ -1,7 +1,7 @@
 -- The second deposit at a node keeps the rule: the pass takes its neighbour's slot, and holds the parent, which it has merged.
 -- For `claim`, `run_crew`, `settle` and `work`.
-use Rattle.std.proofs.Common.{◌≡◌, ◌≢◌, ℕ, suc, ◌+◌, ◌*◌, ◌/◌, ◌<◌, Option, Some, List, set, length, sum_by, slice_index, refl, sym, ap, ◌∙◌, subst, inl, inr, ⊎_elim, arith}
-use mathlib.Core.Option.{some, none}
+use Rattle.std.proofs.Common.{◌≡◌, ◌≢◌, ℕ, suc, ◌+◌, ◌*◌, ◌/◌, ◌<◌, ◌⊎◌, Option, Some, List, set, length, sum_by, slice_index, refl, sym, ap, ◌∙◌, subst, inl, inr, ⊎_elim, arith}
+use mathlib.Core.Option.{some}
 use mathlib.Core.Option as maybe
 use lib.ListN.{get_elem?}
 use native.Mathlib.Decide.{ℕ_discrete}
@@ -15,7 +15,7 @@ use Rattle.at_crew.specs.Views.{times, held_node, is_at, holds, merged, climbing
 use Rattle.at_crew.specs.Rule.{OneWhere, PassesCounted, WordsMarked, WorkListed, PartsStored, CrewRule}
 use Rattle.at_crew.proofs.Tree.{Spans, spans_first, node_pos, node_bound, two_children, sibling_bit, sibling_parent, sibling_other, above_node, child_node, spans_parent}
 use Rattle.at_crew.proofs.Above.{apart, all_claimed, held_is_top}
-use Rattle.at_crew.proofs.Sums.{sum_same, sum_less, sum_more, hit, miss, times_more, counts_same, counts_one, counts_zero}
+use Rattle.at_crew.proofs.Sums.{one_or_other, sum_same, sum_less, sum_more, hit, miss, times_more, counts_same, counts_one, counts_zero}
 use Rattle.at_crew.proofs.Alike.{counted_on, claims_on, rule_on}
 use Rattle.at_crew.proofs.Claims.{some-inj, some≢none}
 use Rattle.at_crew.proofs.Turns.{Turned, Laid}
@@ -87,11 +87,10 @@ module _ {P F : Type 0} (stands : F → P → ℕ → ℕ → Type 0) (f : F) (k
 
   settled_again : (m : ℕ) → Settled k s.words m → Settled k words' m
   settled_again m (inl x) = inl (x.0, root_word ∙ x.1)
-  settled_again m (inr x) = cases (ℕ_discrete (m / 2) p)
-    where
-      cases : Dec (m / 2 ≡ p) → Settled k words' m
-      cases (yes e) = inr (x.0, inr (ap (slice_index words') e ∙ turn.here))
-      cases (no other) = let w = turn.others (m / 2) other in inr (x.0, ⊎_elim (λ y. inl (w ∙ y)) (λ y. inr (w ∙ y)) x.1)
+  settled_again m (inr x) = inr (
+    x.0,
+    one_or_other (λ i. (slice_index words' i ≡ bit_of m) ⊎ (slice_index words' i ≡ 3)) p (m / 2) (inr turn.here) (λ other. (let w = turn.others (m / 2) other in ⊎_elim (λ y. inl (w ∙ y)) (λ y. inr (w ∙ y)) x.1)),
+  )
 
   settled_now : Settled k words' n
   settled_now = inr (deep, inr turn.here)
@@ -112,39 +111,29 @@ module _ {P F : Type 0} (stands : F → P → ℕ → ℕ → Type 0) (f : F) (k
 
   second_marked : WordsMarked k words'
   second_marked = record {
-    two_bits = λ m q lt. bits m q lt (ℕ_discrete m p);
+    two_bits = λ m q lt. one_or_other (λ i. slice_index words' i < 4) p m (let a = turn.here in omega (arith, a)) (λ ne. (let a = good.marked.two_bits m q lt in let b = turn.others m ne in omega (arith, a, b)));
     one_bit = (let a = good.marked.one_bit in let b = root_word in omega (arith, a, b));
-    below = λ m q lt set. below m q lt set (ℕ_discrete m n);
+    below = λ m q lt. one_or_other (λ i. Settled k words' i → Made k words' i) n m (λ set. made_again n mine.made) (λ ne set. made_again m (good.marked.below m q lt (settled_same m ne set)));
   }
-    where
-      bits : (m : ℕ) → 0 < m → m < k → Dec (m ≡ p) → slice_index words' m < 4
-      bits m q lt (yes e) = let h3 = turn.here in let w : slice_index words' m ≡ slice_index words' p = ap (slice_index words') e in omega (arith, h3, w)
-      bits m q lt (no ne) = let a = good.marked.two_bits m q lt in let b = turn.others m ne in omega (arith, a, b)
 
-      below : (m : ℕ) → 0 < m → m < 2 * k → Settled k words' m → Dec (m ≡ n) → Made k words' m
-      below m q lt set (yes e) = subst (λ (i : ℕ). Made k words' i) (sym e) (made_again n mine.made)
-      below m q lt set (no ne) = made_again m (good.marked.below m q lt (settled_same m ne set))
+  abbrev HeldThen : ℕ → Type 0
+  HeldThen m = OneWhere (Made k words' m × (¬ Settled k words' m)) (sum_by (holds m) (set s.views id (Climbs next)))
+
+  held_at_n : HeldThen n
+  held_at_n = let old : sum_by (holds n) s.views ≡ 1 = counts_one _ _ (mine.made, mine.loose) (good.listed.held n (omega (arith, deep)) small) in
+      let less = sum_less (holds n) 1 s.views id (Climbs v) (Climbs next) at (holds_one ∙ ap (λ (i : ℕ). i + 1) (sym (miss p n p_else))) in
+      inr ((λ x. x.1 settled_now), omega (arith, old, less))
+
+  held_at_p : HeldThen p
+  held_at_p = let old : sum_by (holds p) s.views ≡ 0 = counts_zero _ _ (λ x. p_new x.0) (good.listed.held p p_pos (omega (arith, p_small))) in
+      let a : holds p (Climbs next) ≡ 1 = hit p p refl in let b = holds_else p p_else in
+      let more = sum_more (holds p) 1 s.views id (Climbs v) (Climbs next) at (omega (arith, a, b)) in
+      inl ((made_now, p_loose_now), omega (arith, old, more))
 
   second_held : (m : ℕ) → 0 < m → m < 2 * k → OneWhere (Made k words' m × (¬ Settled k words' m)) (sum_by (holds m) (set s.views id (Climbs next)))
-  second_held m q lt = cases (ℕ_discrete m n) (ℕ_discrete m p)
-    where
-      at_n : OneWhere (Made k words' n × (¬ Settled k words' n)) (sum_by (holds n) (set s.views id (Climbs next)))
-      at_n = let old : sum_by (holds n) s.views ≡ 1 = counts_one _ _ (mine.made, mine.loose) (good.listed.held n (omega (arith, deep)) small) in
-          let less = sum_less (holds n) 1 s.views id (Climbs v) (Climbs next) at (holds_one ∙ ap (λ (i : ℕ). i + 1) (sym (miss p n p_else))) in
-          inr ((λ x. x.1 settled_now), omega (arith, old, less))
-
-      at_p : OneWhere (Made k words' p × (¬ Settled k words' p)) (sum_by (holds p) (set s.views id (Climbs next)))
-      at_p = let old : sum_by (holds p) s.views ≡ 0 = counts_zero _ _ (λ x. p_new x.0) (good.listed.held p p_pos (omega (arith, p_small))) in
-          let a : holds p (Climbs next) ≡ 1 = hit p p refl in let b = holds_else p p_else in
-          let more = sum_more (holds p) 1 s.views id (Climbs v) (Climbs next) at (omega (arith, a, b)) in
-          inl ((made_now, p_loose_now), omega (arith, old, more))
-
-      cases : Dec (m ≡ n) → Dec (m ≡ p) → OneWhere (Made k words' m × (¬ Settled k words' m)) (sum_by (holds m) (set s.views id (Climbs next)))
-      cases (yes e) d = subst (λ (i : ℕ). OneWhere (Made k words' i × (¬ Settled k words' i)) (sum_by (holds i) (set s.views id (Climbs next)))) (sym e) at_n
-      cases (no ne) (yes e) = subst (λ (i : ℕ). OneWhere (Made k words' i × (¬ Settled k words' i)) (sum_by (holds i) (set s.views id (Climbs next)))) (sym e) at_p
-      cases (no ne) (no np) = counts_same _ _ (sum_by (holds m) s.views) _
-          (λ x. (made_again m x.0, λ y. x.1 (settled_same m ne y))) (λ x. (made_same m np x.0, λ y. x.1 (settled_again m y)))
-          (sum_same (holds m) s.views id (Climbs v) (Climbs next) at (miss p m (λ e. np (sym e)) ∙ sym (holds_else m ne))) (good.listed.held m q lt)
+  second_held m q lt = one_or_other HeldThen n m held_at_n (λ ne. one_or_other HeldThen p m held_at_p (λ np. counts_same _ _ (sum_by (holds m) s.views) _
+      (λ x. (made_again m x.0, λ y. x.1 (settled_same m ne y))) (λ x. (made_same m np x.0, λ y. x.1 (settled_again m y)))
+      (sum_same (holds m) s.views id (Climbs v) (Climbs next) at (miss p m (λ e. np (sym e)) ∙ sym (holds_else m ne))) (good.listed.held m q lt)))
 
   second_listed : WorkListed k words' (set s.views id (Climbs next))
   second_listed = record {

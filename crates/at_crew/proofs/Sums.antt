@@ -1,7 +1,8 @@
 -- Sums over all views when one changes, and counts of a number.
 -- For most public calls of the crate, `claim`, `close`, `pass` among them.
-use Rattle.std.proofs.Common.{◌≡◌, ◌≢◌, ℕ, zero, suc, ◌+◌, ◌<◌, ◌≤◌, ◌==◌, eq-eqb, ne_eqb, cond, List, [], ◌∷◌, ◌++◌, set, length, sum_by, slice_index, refl, sym, ap, ◌∙◌, inl, inr, arith}
+use Rattle.std.proofs.Common.{◌≡◌, ◌≢◌, ℕ, zero, suc, ◌+◌, ◌<◌, ◌≤◌, ◌==◌, eq-eqb, ne_eqb, Bool, true, false, cond, List, [], ◌∷◌, ◌++◌, set, length, sum_by, slice_index, refl, sym, ap, ◌∙◌, subst, inl, inr, arith}
 use Rattle.std.proofs.lemmas.List.Sums.{sum_by-cons, sum_by-append, sum_by_push}
+use Rattle.std.proofs.lemmas.Bool.{cases_eq}
 use Rattle.std.proofs.lemmas.List.{get_or-set_same, get_or-set_other}
 use mathlib.Core.Option.{some, some-injective, some-ne-none}
 use lib.ListN.{get_elem?}
@@ -30,6 +31,10 @@ module _ {V : Type 0} (f : V → ℕ) where
   sum_ge (x ∷ xs) zero v e = let b = sum_by-cons f x xs in let x' : f x ≡ f v = ap f (some-injective x v e) in omega (arith, b, x')
   sum_ge (x ∷ xs) (suc id) v e = let b = sum_by-cons f x xs in let r = sum_ge xs id v e in omega (arith, b, r)
 
+-- what holds of one number, and of all others, holds of each
+pub one_or_other : (P : ℕ → Type 0) (n m : ℕ) → P n → (m ≢ n → P m) → P m
+one_or_other P n m here other = elim (cases_eq m n) [ inl e ↦ subst P (sym e) here | inr ne ↦ other ne ]
+
 pub hit : (a b : ℕ) → a ≡ b → one_if (a == b) ≡ 1
 hit a b e = ap one_if (eq-eqb a b e)
 
@@ -57,6 +62,10 @@ counts_zero p n h (inr x) = x.1
 pub counts_yes : (p : Type 0) (n : ℕ) → 0 < n → OneWhere p n → p
 counts_yes p n h (inl x) = x.0
 counts_yes p n h (inr x) = absurd (omega (arith, h, x.1))
+
+pub one_if_small : (b : Bool) → one_if b ≤ 1
+one_if_small true = omega arith
+one_if_small false = omega arith
 
 pub word_here : (ws : List ℕ) (i n : ℕ) → i < length ws → slice_index (set ws i n) i ≡ n
 word_here ws i n lt = get_or-set_same ws i n 0 lt
@@ -90,6 +99,3 @@ sum_only f e g none (x ∷ xs) (suc id) v at a b = let p = sum_by-cons f x xs in
 pub sum_zeros : {V : Type 0} (views : List V) → sum_by (λ (v : V). 0) views ≡ 0
 sum_zeros {V} [] = refl
 sum_zeros {V} (x ∷ xs) = let p = sum_by-cons (λ (v : V). 0) x xs in let r = sum_zeros xs in omega (arith, p, r)
-
-pub sum_push : {V : Type 0} (f : V → ℕ) (views : List V) (w : V) → sum_by f (views ++ w ∷ []) ≡ sum_by f views + f w
-sum_push f views w = sum_by_push f views w

@@ -70,11 +70,11 @@ same_children false left right a b c d e = (some-inj (ap head_part e), some-inj 
 
 module _ {P F : Type 0} (stands : F → P → ℕ → ℕ → Type 0) (f : F) (k h p : ℕ) where
   -- the spans of the two children are neighbours
-  pub neighbours : (l : ℕ) → IsNode k l (h + 1) p → (left : Bool) (m : List (ℕ × Option P)) → HasChildren stands f k m p h left → (a b : P) → m ≡ children left (first_of k h (2 * p)) (first_of k h (2 * p + 1)) a b
-      → stands f a (first_of k (h + 1) p) (first_of k h (2 * p + 1)) × stands f b (first_of k h (2 * p + 1)) (end_of k (h + 1) p) × (end_of k (h + 1) p ≤ k)
-  neighbours l is left m has a b e = let same = same_children left (first_of k h (2 * p)) (first_of k h (2 * p + 1)) has.0 has.1 a b (sym has.2 ∙ e) in let up : suc h ≡ h + 1 = omega arith in
+  pub neighbours : (l : ℕ) → IsNode k l (h + 1) p → (left : Bool) (m : List (ℕ × Option P)) → HasChildren stands f k m p h left → (a b : P) (count : ℕ) → count ≡ k → m ≡ children left (first_of k h (2 * p)) (first_of k h (2 * p + 1)) a b
+      → stands f a (first_of k (h + 1) p) (first_of k h (2 * p + 1)) × stands f b (first_of k h (2 * p + 1)) (end_of k (h + 1) p) × (end_of k (h + 1) p ≤ count)
+  neighbours l is left m has a b count all e = let same = same_children left (first_of k h (2 * p)) (first_of k h (2 * p + 1)) has.0 has.1 a b (sym has.2 ∙ e) in let up : suc h ≡ h + 1 = omega arith in
       let lf : first_of k h (2 * p) ≡ first_of k (h + 1) p = left_first k h p ∙ ap (λ (i : ℕ). first_of k i p) up in let re : end_of k h (2 * p + 1) ≡ end_of k (h + 1) p = right_end k h p ∙ ap (λ (i : ℕ). end_of k i p) up in
-      (subst (λ (z : P × ℕ). stands f z.0 z.1 (first_of k h (2 * p + 1))) (λ i. (same.0 i, lf i)) has.3, subst (λ (z : P × ℕ). stands f z.0 (first_of k h (2 * p + 1)) z.1) (λ i. (same.1 i, re i)) has.4, end_small k l (h + 1) p is)
+      (subst (λ (z : P × ℕ). stands f z.0 z.1 (first_of k h (2 * p + 1))) (λ i. (same.0 i, lf i)) has.3, subst (λ (z : P × ℕ). stands f z.0 (first_of k h (2 * p + 1)) z.1) (λ i. (same.1 i, re i)) has.4, omega (arith, end_small k l (h + 1) p is, all))
 
 -- the merged part in the left slot, and the empty right one
 pub full_carried : {P : Type 0} (k h p : ℕ) (x : P) (l r : ℕ) (m : List (ℕ × Option P)) → l ≡ first_of k h (2 * p) → r ≡ first_of k h (2 * p + 1) → m ≡ (r, None) ∷ (l, Some x) ∷ [] → m ≡ carried k (h + 1) p (Some x)

@@ -1,7 +1,7 @@
 -- The arithmetic of nodes: children and parents, spans, and what lies above what.
 -- For most public calls of the crate, `claim`, `close`, `new` among them.
 use Rattle.std.proofs.Common.{◌≡◌, ◌≢◌, ℕ, zero, suc, ◌+◌, ◌-◌, ◌*◌, ◌/◌, ◌%◌, ◌^◌, ◌<◌, ◌≤◌, refl, sym, ap, ◌∙◌, subst, arith, add-zero, add-one, mul-le-mul_right}
-use Rattle.std.proofs.lemmas.Nat.{pow-add}
+use Rattle.std.proofs.lemmas.Nat.{pow_pos, pow-add}
 use native.Mathlib.Decide.{ℕ_discrete}
 use Rattle.at_crew.specs.Nodes.{IsNode, first_of, end_of, bit_of, sibling}
 
@@ -10,10 +10,6 @@ two n = let e = pow-add 2 n 1 in omega (arith, e)
 
 pub two_suc : (n : ℕ) → 2 ^ suc n ≡ 2 * 2 ^ n
 two_suc n = ap (λ x. 2 ^ x) (sym (add-one n)) ∙ two n
-
-pub pow_pos : (n : ℕ) → 0 < 2 ^ n
-pow_pos zero = omega arith
-pow_pos (suc n) = let e : 2 ^ (suc n) ≡ 2 * 2 ^ n = two_suc n in let p = pow_pos n in omega (arith, e, p)
 
 -- a node's numbers: it is no less than its level's first, and its span lies within the blocks
 pub from_product : (k l h n : ℕ) → IsNode k l h n → k ≤ n * 2 ^ h

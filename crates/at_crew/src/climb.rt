@@ -14,6 +14,13 @@ use crate::pass::Pass;
 use crate::steps::{CrewSeat, Deposit, RootHome};
 use std::alloc::Global;
 
+/// What merges two parts: the job, and where it takes its memory.
+#[derive(Drop)]
+struct Merger<'a, J: Job> {
+    alloc: Global,
+    job: &'a J,
+}
+
 impl<J: Job> Crew<J> {
     /// Settles the part of the block that the pass holds, and answers at how many nodes it merged two parts.
     ///
@@ -46,16 +53,16 @@ impl<J: Job> Crew<J> {
             .shared
             .exchange(&mut pass.seat, block as usize, Some(part));
         let leaf = self.blocks as u64 + block as u64;
-        let merges = self.climb(alloc, job, &mut pass.seat, leaf);
+        let merges = self.climb(&Merger { alloc, job }, &mut pass.seat, leaf);
         pass.holding = None;
         merges
     }
 
     // Climbs from a leaf while the neighbour is there, and answers how far it came.
-    fn climb(&self, alloc: Global, job: &J, seat: &mut CrewSeat<J>, leaf: u64) -> u32
+    fn climb(&self, merger: &Merger<J>, seat: &mut CrewSeat<J>, leaf: u64) -> u32
         requires of { seat.old.table_id ≡ self.now.table.shared.table_id }
-        requires facts { J.facts job.now ≡ J.facts (job_of self.now) }
-        requires bears { Bears J.stands (J.facts job.now) (blocks_of self.now) seat.old.me leaf 0 }
+        requires facts { J.facts merger.now.job.now ≡ J.facts (job_of self.now) }
+        requires bears { Bears J.stands (J.facts merger.now.job.now) (blocks_of self.now) seat.old.me leaf 0 }
         ensures of { seat.new.table_id ≡ seat.old.table_id }
         ensures empty { seat.new.me.1 ≡ [] }
         ensures merged { seat.new.me.0 ≡ adds (ancestors leaf result) (rests seat.old.me.0) }
@@ -64,39 +71,15 @@ impl<J: Job> Crew<J> {
         let mut node = leaf;
         let mut height = 0;
         while node > 1 {
-            if !self.step_up(alloc, job, seat, node, height) {
+            if !self.deposit(seat, node, height) {
                 return height;
             }
+            self.join(merger, seat, node, height);
             node /= 2;
             height += 1;
         }
         self.bring_home(seat, height);
         height
-    }
-
-    // One step up. True where the neighbour's part was there: the seat then has the parent, and the merged part.
-    fn step_up(
-        &self,
-        alloc: Global,
-        job: &J,
-        seat: &mut CrewSeat<J>,
-        node: u64,
-        height: u32,
-    ) -> bool
-        requires of { seat.old.table_id ≡ self.now.table.shared.table_id }
-        requires facts { J.facts job.now ≡ J.facts (job_of self.now) }
-        requires bears { Bears J.stands (J.facts job.now) (blocks_of self.now) seat.old.me node height }
-        requires below { 1 < node }
-        ensures of { seat.new.table_id ≡ seat.old.table_id }
-        ensures second { IsTrue result → (seat.new.me.0 ≡ climbs_to (held_node (node / 2) (height + 1)) seat.old.me.0)
-            × Bears J.stands (J.facts job.now) (blocks_of self.now) seat.new.me (node / 2) (height + 1) }
-        ensures first { IsFalse result → (seat.new.me.0 ≡ rests seat.old.me.0) × (seat.new.me.1 ≡ []) }
-    {
-        if !self.deposit(seat, node, height) {
-            return false;
-        }
-        self.join(alloc, job, seat, node / 2, height, node % 2 == 0);
-        true
     }
 
     // Sets the node's bit in its parent's word. True where the neighbour's bit was there: the seat then has both parts.
@@ -130,31 +113,24 @@ impl<J: Job> Crew<J> {
             .fetch_or::<RootHome<J>>(seat, self.blocks as usize, 1);
     }
 
-    // Merges the parts of a node's children, into the left child's slot.
-    fn join(
-        &self,
-        alloc: Global,
-        job: &J,
-        seat: &mut CrewSeat<J>,
-        parent: u64,
-        height: u32,
-        own_is_left: bool,
-    )
+    // Merges a node's part and its neighbour's, into the left one's slot.
+    fn join(&self, merger: &Merger<J>, seat: &mut CrewSeat<J>, node: u64, height: u32)
         requires of { seat.old.table_id ≡ self.now.table.shared.table_id }
-        requires count { J.count (J.facts job.now) ≡ blocks_of self.now }
-        requires two { HasChildren J.stands (J.facts job.now) (blocks_of self.now) seat.old.me.1
-            parent height own_is_left }
-        requires node { (l : ℕ) × IsNode (blocks_of self.now) l (height + 1) parent }
+        requires count { J.count (J.facts merger.now.job.now) ≡ blocks_of self.now }
+        requires two { HasChildren J.stands (J.facts merger.now.job.now) (blocks_of self.now) seat.old.me.1
+            (node / 2) height (node % 2 == 0) }
+        requires node { (l : ℕ) × IsNode (blocks_of self.now) l (height + 1) (node / 2) }
         ensures of { (seat.new.table_id ≡ seat.old.table_id) × (seat.new.me.0 ≡ seat.old.me.0) }
         ensures part { (x : J.Part)
-            × (seat.new.me.1 ≡ carried (blocks_of self.now) (height + 1) parent (Some x))
-            × J.stands (J.facts job.now) x (first_of (blocks_of self.now) (height + 1) parent)
-            (end_of (blocks_of self.now) (height + 1) parent) }
+            × (seat.new.me.1 ≡ carried (blocks_of self.now) (height + 1) (node / 2) (Some x))
+            × J.stands (J.facts merger.now.job.now) x (first_of (blocks_of self.now) (height + 1) (node / 2))
+            (end_of (blocks_of self.now) (height + 1) (node / 2)) }
     {
+        let parent = node / 2;
         let left = self.slot(2 * parent, height);
         let right = self.slot(2 * parent + 1, height);
-        let (a, b) = self.take_children(seat, left, right, own_is_left);
-        self.put(seat, left, right, job.merge(alloc, a, b));
+        let (a, b) = self.take_children(seat, left, right, node % 2 == 0);
+        self.put(seat, left, right, merger.job.merge(merger.alloc, a, b));
     }
 
     // The slot of a node's first leaf.

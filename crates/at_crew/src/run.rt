@@ -34,7 +34,13 @@ pub fn run_crew<J: Job, G: Gate, R: Threads + Sync>(
     for _ in 0..passes {
         row.push_reserved(chief.pass(&crew));
     }
-    work_all(rt, alloc, &crew, job, row.as_mut_slice(), gate);
+    let work = Work {
+        crew: &crew,
+        alloc,
+        job,
+        gate,
+    };
+    work_all(rt, &work, row.as_mut_slice());
     while let Some(pass) = row.pop() {
         chief.take_back(&crew, pass);
     }
@@ -42,19 +48,21 @@ pub fn run_crew<J: Job, G: Gate, R: Threads + Sync>(
     Ok(whole)
 }
 
-// All passes of a row work at once, until each is over.
-fn work_all<J: Job, G: Gate, R: Threads + Sync>(
-    rt: &R,
+/// What each pass works with.
+#[derive(Drop)]
+struct Work<'a, J: Job, G: Gate> {
+    crew: &'a Crew<J>,
     alloc: Global,
-    crew: &Crew<J>,
-    job: &J,
-    row: &mut [Pass<J>],
-    gate: &G,
-)
+    job: &'a J,
+    gate: &'a G,
+}
+
+// All passes of a row work at once, until each is over.
+fn work_all<J: Job, G: Gate, R: Threads + Sync>(rt: &R, work: &Work<J, G>, row: &mut [Pass<J>])
     requires some { 0 < length row.old }
-    requires facts { J.facts job.now ≡ J.facts (job_of crew.now) }
-    requires ready { All (IsReady crew.now) row.old }
-    ensures { All (IsDone crew.now) row.new }
+    requires facts { J.facts work.now.job.now ≡ J.facts (job_of work.now.crew.now) }
+    requires ready { All (IsReady work.now.crew.now) row.old }
+    ensures { All (IsDone work.now.crew.now) row.new }
 {
     let threads = row.len();
     thread::for_each_mut(
@@ -62,8 +70,9 @@ fn work_all<J: Job, G: Gate, R: Threads + Sync>(
         row,
         threads,
         &|_: usize, pass: &mut Pass<J>|
-            requires { IsReady crew.now pass.now × (J.facts job.now ≡ J.facts (job_of crew.now)) }
-            ensures { IsDone crew.entry.now pass.exit.now }
-        { crew.work(alloc, job, pass, gate) },
+            requires { IsReady work.now.crew.now pass.now
+                × (J.facts work.now.job.now ≡ J.facts (job_of work.now.crew.now)) }
+            ensures { IsDone work.entry.now.crew.now pass.exit.now }
+        { work.crew.work(work.alloc, work.job, pass, work.gate) },
     );
 }

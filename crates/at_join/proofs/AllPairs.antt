@@ -1,13 +1,11 @@
 -- The pairs of all cells, put in order, are all pairs that meet.
 -- For `pairs_grid`.
 use Rattle.std.proofs.Common.{◌≡◌, ℕ, zero, suc, ◌+◌, ◌<◌, ◌≤◌, ◌==◌, Bool, true, false, cond, List, [], ◌∷◌, ◌++◌, get_or, Option, Some, None, map, inl, inr, ◌⊎◌, arith, refl, sym, ap, subst, ◌∙◌}
-use Rattle.std.specs.Prelude.{All, count_by, filter}
+use Rattle.std.specs.Prelude.{All, filter}
 use Rattle.std.specs.List.{AllByRecursion}
 use Rattle.std.specs.List.Sorted.{IsPermutation, IsNonDecreasingBy}
-use Rattle.std.proofs.lemmas.Bool.{cases_lt, eqb-true, eq-eqb, ne_eqb}
+use Rattle.std.proofs.lemmas.Bool.{cases_lt, eqb-true, eq-eqb}
 use Rattle.std.proofs.lemmas.Int.{ints, clamps}
-use Rattle.std.proofs.lemmas.List.{map-append}
-use Rattle.std.proofs.lemmas.List.Sums.{sum_by-cons}
 use Rattle.std.proofs.lemmas.List.Sorted.{sum_by-IsPermutation, All-permutation}
 use Rattle.std.proofs.lemmas.List.Elements.{recursion_from_All, All-head, All-tail}
 use Rattle.std.proofs.ByRecursion.{All-append}
@@ -31,8 +29,8 @@ use Rattle.at_join.specs.Cells.{cell_of, spread_of, is_pair_of, InCells, is_pair
 use Rattle.at_join.specs.Parts.{rank_of}
 use Rattle.at_join.proofs.Extents.{from_touching, reference_inside, shape_span}
 use Rattle.at_join.proofs.CellRects.{cell_below}
-use Rattle.at_join.proofs.Offsets.{In, Rises, in_from, contains_from, of_all, one_entry, above, rest_rises, AreAbove, pair_times}
-use Rattle.at_join.proofs.CellPairs.{gone, spread_round, pair_is, kept_times, same_pair, keeps_have, both_all, each_weaker, all_pairs_of}
+use Rattle.at_join.proofs.Offsets.{In, Rises, in_from, contains_from, of_all, one_entry, above, rest_rises, entry_once, pair_times}
+use Rattle.at_join.proofs.CellPairs.{gone, spread_round, pair_is, kept_times, same_pair, keeps_have, both_all, all_mapped, each_weaker, all_pairs_of}
 use Rattle.at_join.proofs.PartLists.{times_none, times_cons}
 use Rattle.at_geom.proofs.Elements.{some_left, some_right}
 
@@ -92,26 +90,6 @@ in_meets a b e f p pa pb he hf same w =
     let second = one_entry b f w.second pb.rising hf (in_from b w.second w.of_second) (ap (λ (z : Pair). z.second) (same ∙ w.is)) in
     subst (λ (z : Entry). Meet z.shape f.shape) (sym first) (subst (λ (z : Entry). Meet w.first.shape z.shape) (sym second) w.meet)
 
--- ---- how often a pair stands among all pairs of entries
-
-none_named : (n : ℕ) (es : List Entry) → AreAbove n es → count_by (λ (e : Entry). e.at == n) es ≡ 0
-none_named n [] h = refl
-none_named n (e ∷ es) h =
-    let off = ap {B = ℕ} (λ b. cond b 1 0) (ne_eqb e.at n (λ s. let lt = h.0 in omega (arith, lt, s))) in
-    omega (arith, sum_by-cons (λ (z : Entry). cond (z.at == n) 1 0) e es, off, none_named n es h.1)
-
-entry_once : (n : ℕ) (es : List Entry) (e : Entry) → Rises es → In e es → e.at ≡ n → count_by (λ (z : Entry). z.at == n) es ≡ 1
-entry_once n [] e r h at = absurd h
-entry_once n (y ∷ es) e r (inl h) at =
-    let here : y.at ≡ n = ap (λ (z : Entry). z.at) h ∙ at in
-    let one = ap {B = ℕ} (λ b. cond b 1 0) (eq-eqb y.at n here) in
-    let rest = none_named n es (subst (λ m. AreAbove m es) here (above y es r)) in
-    omega (arith, sum_by-cons (λ (z : Entry). cond (z.at == n) 1 0) y es, one, rest)
-entry_once n (y ∷ es) e r (inr h) at =
-    let lt = of_all (λ (z : Entry). y.at < z.at) es e (above y es r) h in
-    let off = ap {B = ℕ} (λ b. cond b 1 0) (ne_eqb y.at n (λ s. omega (arith, lt, s, at))) in
-    omega (arith, sum_by-cons (λ (z : Entry). cond (z.at == n) 1 0) y es, off, entry_once n es e (rest_rises y es r) h at)
-
 -- ---- what is kept of all pairs
 
 filter_by : {X : Type 0} (P : X → Type 0) (x : X) (xs ks : List X) (b : Bool) → (b ≡ true → P x) → (P x → b ≡ true) → Keeps P xs ks → Keeps P (x ∷ xs) (cond b (x ∷ ks) ks)
@@ -136,9 +114,10 @@ in_itself {X} (x ∷ xs) = (inl refl, each_weaker (λ (y : X). In y xs) (λ (y :
 abbrev Before : Pair → Pair → Type 0
 Before p q = (p.first < q.first) ⊎ ((p.first ≡ q.first) × (p.second ≤ q.second))
 
-abbrev Ascends : List Pair → Type 0
-Ascends [] = Unit {0}
-Ascends (p ∷ ps) = AllByRecursion (Before p) ps × Ascends ps
+-- what f makes of the elements is in order
+abbrev Ascends : {X : Type 0} → (X → Pair) → List X → Type 0
+Ascends f [] = Unit {0}
+Ascends {X} f (x ∷ xs) = AllByRecursion (λ (y : X). Before (f x) (f y)) xs × Ascends f xs
 
 both_before : (p q : Pair) → Before p q → Before q p → p ≡ q
 both_before p q (inl a) (inl b) = absurd (omega (arith, a, b))
@@ -166,80 +145,48 @@ first_before : (p q : Pair) (qs : List Pair) → AllByRecursion (Before q) qs �
 first_before p q qs all h = has_by (Before q) p q (times p qs) (is_pair p q) refl (omega (arith, h, times_cons p q qs)) (inr (refl, omega (arith))) (λ more. times_has (Before q) p qs more all)
 
 -- two lists in order that have the same pairs as often are one
-same_lists : (ps qs : List Pair) → Ascends ps → Ascends qs → ((p : Pair) → times p ps ≡ times p qs) → ps ≡ qs
-same_lists [] [] a b same = refl
-same_lists [] (q ∷ qs) a b same = absurd (let e = same q in omega (arith, e, one_here q qs))
-same_lists (p ∷ ps) [] a b same = absurd (let e = same p in omega (arith, e, one_here p ps))
-same_lists (p ∷ ps) (q ∷ qs) a b same =
+same_lists : {X : Type 0} (f : X → Pair) (ps : List Pair) (xs : List X) → Ascends (λ q. q) ps → Ascends f xs → ((p : Pair) → times p ps ≡ times p (map f xs)) → ps ≡ map f xs
+same_lists f [] [] a b same = refl
+same_lists f [] (x ∷ xs) a b same = absurd (let e = same (f x) in omega (arith, e, one_here (f x) (map f xs)))
+same_lists f (p ∷ ps) [] a b same = absurd (let e = same p in omega (arith, e, one_here p ps))
+same_lists {X} f (p ∷ ps) (x ∷ xs) a b same =
+    let qs = map f xs in
     let e_p = same p in
-    let e_q = same q in
-    let to = first_before p q qs b.0 (omega (arith, e_p, one_here p ps)) in
-    let from = first_before q p ps a.0 (omega (arith, e_q, one_here q qs)) in
-    let head = both_before p q from to in
-    let rest = same_lists ps qs a.1 b.1 (λ r. let e = same r in let f = ap {B = ℕ} (λ (z : Pair). cond (is_pair r z) 1 0) head in omega (arith, e, times_cons r p ps, times_cons r q qs, f)) in
-    ap (λ z. z ∷ ps) head ∙ ap (λ l. q ∷ l) rest
+    let e_q = same (f x) in
+    let to = first_before p (f x) qs (all_mapped (λ (y : X). Before (f x) (f y)) (Before (f x)) f (λ y h. h) xs b.0) (omega (arith, e_p, one_here p ps)) in
+    let from = first_before (f x) p ps a.0 (omega (arith, e_q, one_here (f x) qs)) in
+    let head = both_before p (f x) from to in
+    let rest = same_lists f ps xs a.1 b.1 (λ r. let e = same r in let g = ap {B = ℕ} (λ (z : Pair). cond (is_pair r z) 1 0) head in omega (arith, e, times_cons r p ps, times_cons r (f x) qs, g)) in
+    ap (λ z. z ∷ ps) head ∙ ap (λ l. f x ∷ l) rest
 
 -- ---- all pairs of rising offsets are in order
 
-row_before : (e f : Entry) (fs : List Entry) → AreAbove f.at fs → AllByRecursion (Before (at_entries (e, f))) (map at_entries (map (λ (g : Entry). (e, g)) fs))
-row_before e f [] h = tt
-row_before e f (g ∷ fs) h = (inr (refl, omega (arith, h.0)), row_before e f fs h.1)
-
--- a row has the first offset of its entry, and the later rows have greater ones
-abbrev Has : ℕ → Pair → Type 0
-Has n p = p.first ≡ n
-
-abbrev Past : ℕ → Pair → Type 0
-Past n p = n < p.first
-
-row_first : (e : Entry) (fs : List Entry) → AllByRecursion (Has e.at) (map at_entries (map (λ (f : Entry). (e, f)) fs))
-row_first e [] = tt
-row_first e (f ∷ fs) = (refl, row_first e fs)
-
-row_past : (n : ℕ) (e : Entry) (fs : List Entry) → n < e.at → AllByRecursion (Past n) (map at_entries (map (λ (f : Entry). (e, f)) fs))
-row_past n e [] h = tt
-row_past n e (f ∷ fs) h = (h, row_past n e fs h)
-
-rows_later : (n : ℕ) (es fs : List Entry) → AreAbove n es → AllByRecursion (Past n) (map at_entries (pairs_of es fs))
-rows_later n [] fs h = tt
-rows_later n (e ∷ es) fs h =
-    subst (AllByRecursion (Past n)) (sym (map-append at_entries (map (λ (f : Entry). (e, f)) fs) (pairs_of es fs)))
-    (All-append (Past n) (map at_entries (map (λ (f : Entry). (e, f)) fs)) (map at_entries (pairs_of es fs)) (row_past n e fs h.0) (rows_later n es fs h.1))
-
-past_before : (n : ℕ) (p : Pair) (qs : List Pair) → p.first ≡ n → AllByRecursion (Past n) qs → AllByRecursion (Before p) qs
-past_before n p [] e h = tt
-past_before n p (q ∷ qs) e h = (inl (omega (arith, e, h.0)), past_before n p qs e h.1)
-
-ascends_both : (n : ℕ) (ps qs : List Pair) → Ascends ps → Ascends qs → AllByRecursion (Has n) ps → AllByRecursion (Past n) qs → Ascends (ps ++ qs)
-ascends_both n [] qs a b h k = b
-ascends_both n (p ∷ ps) qs a b h k = (All-append (Before p) ps qs a.0 (past_before n p qs h.0 k), ascends_both n ps qs a.1 b h.1 k)
-
-kept_by : (Q : Pair → Type 0) (x : Entry × Entry) (ks : List (Entry × Entry)) (b : Bool) → Q (at_entries x) → AllByRecursion Q (map at_entries ks) → AllByRecursion Q (map at_entries (cond b (x ∷ ks) ks))
-kept_by Q x ks true h k = (h, k)
-kept_by Q x ks false h k = k
-
-ascends_by : (x : Entry × Entry) (ks : List (Entry × Entry)) (b : Bool) → AllByRecursion (Before (at_entries x)) (map at_entries ks) → Ascends (map at_entries ks) → Ascends (map at_entries (cond b (x ∷ ks) ks))
-ascends_by x ks true h k = (h, k)
-ascends_by x ks false h k = k
-
-ascends_row : (e : Entry) (fs : List Entry) → Rises fs → Ascends (map at_entries (map (λ (f : Entry). (e, f)) fs))
+ascends_row : (e : Entry) (fs : List Entry) → Rises fs → Ascends at_entries (map (λ (f : Entry). (e, f)) fs)
 ascends_row e [] r = tt
-ascends_row e (f ∷ fs) r = (row_before e f fs (above f fs r), ascends_row e fs (rest_rises f fs r))
+ascends_row e (f ∷ fs) r = (
+  all_mapped (λ (g : Entry). f.at < g.at) (λ (z : Entry × Entry). Before (at_entries (e, f)) (at_entries z)) (λ (g : Entry). (e, g)) (λ g lt. inr (refl, omega (arith, lt))) fs (above f fs r),
+  ascends_row e fs (rest_rises f fs r),
+)
 
-ascends_rows : (es fs : List Entry) → Rises es → Rises fs → Ascends (map at_entries (pairs_of es fs))
+ascends_both : {X : Type 0} (f : X → Pair) (xs ys : List X) → Ascends f xs → Ascends f ys → AllByRecursion (λ (x : X). AllByRecursion (λ (y : X). Before (f x) (f y)) ys) xs → Ascends f (xs ++ ys)
+ascends_both f [] ys a b h = b
+ascends_both {X} f (x ∷ xs) ys a b h = (All-append (λ (y : X). Before (f x) (f y)) xs ys a.0 h.0, ascends_both f xs ys a.1 b h.1)
+
+-- a row has the offset of its entry first, and the later rows have greater ones
+ascends_rows : (es fs : List Entry) → Rises es → Rises fs → Ascends at_entries (pairs_of es fs)
 ascends_rows [] fs r s = tt
 ascends_rows (e ∷ es) fs r s =
-    subst Ascends (sym (map-append at_entries (map (λ (f : Entry). (e, f)) fs) (pairs_of es fs)))
-    (ascends_both e.at (map at_entries (map (λ (f : Entry). (e, f)) fs)) (map at_entries (pairs_of es fs)) (ascends_row e fs s) (ascends_rows es fs (rest_rises e es r) s) (row_first e fs) (rows_later e.at es fs (above e es r)))
+    let row : List (Entry × Entry) = map (λ (f : Entry). (e, f)) fs in
+    let later = all_pairs_of (λ (x : Entry). e.at < x.at) (λ (y : Entry). In y fs) (λ (z : Entry × Entry). e.at < z.0.at) (λ x y lt h. lt) es fs (above e es r) (in_itself fs) in
+    let before = all_mapped (λ (y : Entry). In y fs) (λ (z : Entry × Entry). AllByRecursion (λ (x : Entry × Entry). Before (at_entries z) (at_entries x)) (pairs_of es fs)) (λ (f : Entry). (e, f))
+    (λ f h. each_weaker (λ (z : Entry × Entry). e.at < z.0.at) (λ (x : Entry × Entry). Before (at_entries (e, f)) (at_entries x)) (λ x lt. inl lt) (pairs_of es fs) later) fs (in_itself fs) in
+    ascends_both at_entries row (pairs_of es fs) (ascends_row e fs s) (ascends_rows es fs (rest_rises e es r) s) before
 
 -- what is kept of a list in order is in order
-kept_mapped : (Q : Pair → Type 0) (test : Entry × Entry → Bool) (xs : List (Entry × Entry)) → AllByRecursion Q (map at_entries xs) → AllByRecursion Q (map at_entries (filter test xs))
-kept_mapped Q test [] h = tt
-kept_mapped Q test (x ∷ xs) h = kept_by Q x (filter test xs) (test x) h.0 (kept_mapped Q test xs h.1)
-
-ascends_filter : (test : Entry × Entry → Bool) (xs : List (Entry × Entry)) → Ascends (map at_entries xs) → Ascends (map at_entries (filter test xs))
-ascends_filter test [] h = tt
-ascends_filter test (x ∷ xs) h = ascends_by x (filter test xs) (test x) (kept_mapped (Before (at_entries x)) test xs h.0) (ascends_filter test xs h.1)
+ascends_kept : {X : Type 0} (P : X → Type 0) (f : X → Pair) (xs ks : List X) → Keeps P xs ks → Ascends f xs → Ascends f ks
+ascends_kept P f [] ks e h = subst (Ascends f) (sym e) tt
+ascends_kept {X} P f (x ∷ xs) ks (inl (p, (zs, e, k))) h = subst (Ascends f) (sym e) (kept_all P (λ (y : X). Before (f x) (f y)) xs zs k h.0, ascends_kept P f xs zs k h.1)
+ascends_kept P f (x ∷ xs) ks (inr (n, k)) h = ascends_kept P f xs ks k h.1
 
 -- ---- a list that is sorted by rank is in order
 
@@ -261,7 +208,7 @@ sorted_rest q qs h = λ i j d le lt. h (suc i) (suc j) d (omega (arith, le)) (om
 sorted_first : (q : Pair) (qs : List Pair) → IsNonDecreasingBy rank_of (q ∷ qs) → Fits q → All Fits qs → All (Before q) qs
 sorted_first q qs h f all = λ k d lt. rank_before q (get_or qs k d) f (all k d lt) (h 0 (suc k) d (omega (arith)) (omega (arith, lt)))
 
-sorted_ascends : (qs : List Pair) → IsNonDecreasingBy rank_of qs → All Fits qs → Ascends qs
+sorted_ascends : (qs : List Pair) → IsNonDecreasingBy rank_of qs → All Fits qs → Ascends (λ q. q) qs
 sorted_ascends [] h all = tt
 sorted_ascends (q ∷ qs) h all =
     let rest = All-tail Fits q qs all in
@@ -300,7 +247,7 @@ all_pairs a b ps qs pa pb each moved sorted fits =
     let in_kept = kept_all Meeting (AreIn a b) X kept keeps inside in
     let all_kept = both_all (AreIn a b) Meeting W at_entries (λ z k m. meets_in a b z.0 z.1 pa pb k.0 k.1 m) kept in_kept (keeps_have Meeting X kept keeps) in
     let same = λ (p : Pair). times_by a b p qs X kept refl pa pb keeps inside all all_kept once (times p qs) refl in
-    (kept, keeps, same_lists qs (map at_entries kept) (sorted_ascends qs sorted fits) (ascends_filter test X (ascends_rows a b pa.rising pb.rising)) same)
+    (kept, keeps, same_lists at_entries qs kept (sorted_ascends qs sorted fits) (ascends_kept Meeting at_entries X kept keeps (ascends_rows a b pa.rising pb.rising)) same)
 
 -- what stands where a list has no pair
 abbrev pub no_pair : Pair

@@ -22,35 +22,31 @@ use Rattle.at_join.specs.Boxes.{touch_of, is_here_of, IsWide}
 use Rattle.at_join.specs.Meetings.{Finds}
 use Rattle.at_join.specs.Cells.{rect_of, spread_of, is_pair_of, belongs, InCells, is_pair, times, ListsEach}
 use Rattle.at_join.specs.Sides.{IsAt, IsOutlineOf, IsGrid, CellHit, at_outlines}
-use Rattle.at_join.proofs.Extents.{encloses_through, head_round, tail_round, reference_inside, shape_span}
+use Rattle.at_join.proofs.Extents.{encloses_through, head_has, tail_has, reference_inside, shape_span}
 use Rattle.at_join.proofs.CellRects.{rect_is_cell}
 use Rattle.at_join.proofs.Rows.{one_at}
 use Rattle.at_join.proofs.Offsets.{In, in_from, of_all, one_entry, outline_once, pair_times}
 
 -- ---- the joint extent is round that of each entry
 
-none_both : (o t : Option Extent) → around_both o t ≡ None → (o ≡ None) × (t ≡ None)
-none_both None t e = (refl, e)
-none_both (Some x) None e = absurd (cc)
-none_both (Some x) (Some y) e = absurd (cc)
-
-some_none : (o : Option Extent) (x : Extent) → o ≡ Some x → o ≡ None → ⊥
-some_none None x e f = absurd (cc)
-some_none (Some y) x e f = absurd (cc)
+spread_has : (es : List Entry) (x : Extent) (e : Entry) → In e es → e.extent ≡ Some x → (j : Extent) × (spread_of es ≡ Some j) × (encloses j x ≡ true)
+spread_has [] x e h ext = absurd h
+spread_has (y ∷ es) x e (inl h) ext =
+    let (j, is, round) = head_has x (spread_of es) in
+    (j, ap (λ o. around_both o (spread_of es)) (ap (λ (z : Entry). z.extent) h ∙ ext) ∙ is, round)
+spread_has (y ∷ es) x e (inr h) ext =
+    let (k, is, round) = spread_has es x e h ext in
+    let (j, joined, whole) = tail_has y.extent k in
+    (j, ap (around_both y.extent) is ∙ joined, encloses_through j k x whole round)
 
 pub gone : (es : List Entry) (e : Entry) (x : Extent) → spread_of es ≡ None → In e es → e.extent ≡ Some x → ⊥
-gone [] e x none h ext = absurd h
-gone (y ∷ es) e x none (inl h) ext = some_none y.extent x (ap (λ (z : Entry). z.extent) h ∙ ext) (none_both y.extent (spread_of es) none).0
-gone (y ∷ es) e x none (inr h) ext = gone es e x (none_both y.extent (spread_of es) none).1 h ext
-
-through : (o t : Option Extent) (j x : Extent) → around_both o t ≡ Some j → ((k : Extent) → t ≡ Some k → encloses k x ≡ true) → (t ≡ None → ⊥) → encloses j x ≡ true
-through o None j x is some none = absurd (none refl)
-through o (Some k) j x is some none = encloses_through j k x (tail_round o (Some k) j k is refl) (some k refl)
+gone es e x none h ext = let (j, is, round) = spread_has es x e h ext in cc
 
 pub spread_round : (es : List Entry) (j x : Extent) (e : Entry) → spread_of es ≡ Some j → In e es → e.extent ≡ Some x → encloses j x ≡ true
-spread_round [] j x e is h ext = absurd h
-spread_round (y ∷ es) j x e is (inl h) ext = head_round y.extent (spread_of es) j x is (ap (λ (z : Entry). z.extent) h ∙ ext)
-spread_round (y ∷ es) j x e is (inr h) ext = through y.extent (spread_of es) j x is (λ k some. spread_round es k x e some h ext) (λ none. gone es e x none h ext)
+spread_round es j x e is h ext =
+    let (k, has, round) = spread_has es x e h ext in
+    let same : k ≡ j = cc in
+    subst (λ (z : Extent). encloses z x ≡ true) same round
 
 -- ---- one pair of entries
 
@@ -83,8 +79,8 @@ pub same_pair : (m n k l : ℕ) → m ≡ k → n ≡ l → made m n ≡ made k 
 same_pair m n k l e f = rw (e, f) refl
 
 wanted_from_hit : (a b : Side) (j : Extent) (cell : ℕ) (p q : Outline) → IsGrid a b (Some j) → IsOutlineOf a.entries p → IsOutlineOf b.entries q
-    → CellHit (rect_of j cell) a.entries b.entries (p, q) → InCells a.entries b.entries cell (cell + 1) (at_outlines (p, q))
-wanted_from_hit a b j cell p q g (d, at_d, x_d, o_d) (c, at_c, x_c, o_c) (e, at_e, (here, f, at_f, meet)) =
+    → CellHit (rect_of j cell) a b (p, q) → InCells a.entries b.entries cell (cell + 1) (at_outlines (p, q))
+wanted_from_hit a b j cell p q g (d, at_d, x_d, o_d) (c, at_c, x_c, o_c) (here, e, f, at_e, at_f, meet) =
     let same_e = one_at a.entries p.index d e at_d at_e in
     let same_f = one_at b.entries q.index c f at_c at_f in
     let x_e : e.extent ≡ Some p.extent = ap (λ (z : Entry). z.extent) (sym same_e) ∙ x_d in
@@ -105,7 +101,7 @@ wanted_from_hit a b j cell p q g (d, at_d, x_d, o_d) (c, at_c, x_c, o_c) (e, at_
     }
 
 hit_from_wanted : (a b : Side) (j : Extent) (cell : ℕ) (p q : Outline) (r : Pair) → IsGrid a b (Some j) → IsOutlineOf a.entries p → IsOutlineOf b.entries q
-    → InCells a.entries b.entries cell (cell + 1) r → at_outlines (p, q) ≡ r → CellHit (rect_of j cell) a.entries b.entries (p, q)
+    → InCells a.entries b.entries cell (cell + 1) r → at_outlines (p, q) ≡ r → CellHit (rect_of j cell) a b (p, q)
 hit_from_wanted a b j cell p q r g (d, at_d, x_d, o_d) (c, at_c, x_c, o_c) w same =
     let in_d = in_at a.entries p.index d at_d in
     let in_c = in_at b.entries q.index c at_c in
@@ -117,7 +113,7 @@ hit_from_wanted a b j cell p q r g (d, at_d, x_d, o_d) (c, at_c, x_c, o_c) w sam
     let here : belongs a.entries b.entries cell (d, c) ≡ true =
     ap (λ n. belongs a.entries b.entries n (d, c)) (sym number) ∙ ap (λ (z : Entry). belongs a.entries b.entries w.cell (z, c)) e_d ∙ ap (λ (z : Entry). belongs a.entries b.entries w.cell (w.first, z)) e_c ∙ w.here in
     let meet = subst (λ (z : Entry). Meet z.shape c.shape) (sym e_d) (subst (λ (z : Entry). Meet w.first.shape z.shape) (sym e_c) w.meet) in
-    (d, at_d, (entries_here a.entries b.entries j cell d c p.extent q.extent g.first.entries g.second.entries g.joint in_d in_c x_d x_c ∙ here, c, at_c, meet))
+    (entries_here a.entries b.entries j cell d c p.extent q.extent g.first.entries g.second.entries g.joint in_d in_c x_d x_c ∙ here, d, c, at_d, at_c, meet)
 
 -- ---- all pairs
 
@@ -172,20 +168,17 @@ extents_of (Some j) None y cell h = absurd (cc)
 extents_of (Some j) (Some x) None cell h = absurd (cc)
 extents_of (Some j) (Some x) (Some y) cell h = ((x, refl), (y, refl))
 
-an_extent : (a b : List Entry) (o : Option Extent) (cell : ℕ) (e f : Entry) → is_pair_of o e.extent f.extent cell ≡ true → ((x : Extent) × (e.extent ≡ Some x)) × ((y : Extent) × (f.extent ≡ Some y))
-an_extent a b o cell e f h = extents_of o e.extent f.extent cell h
-
 -- what is found among the outlines is each wanted pair once, and no other
 pub cell_lists : (a b : Side) (j : Extent) (cell : ℕ) (ps : List Pair) → IsGrid a b (Some j)
-    → Finds (CellHit (rect_of j cell) a.entries b.entries) at_outlines (pairs_of a.outlines.items b.outlines.items) [] ps → ListsEach (InCells a.entries b.entries cell (cell + 1)) ps
+    → Finds (CellHit (rect_of j cell) a b) at_outlines (pairs_of a.outlines.items b.outlines.items) [] ps → ListsEach (InCells a.entries b.entries cell (cell + 1)) ps
 cell_lists a b j cell ps g (kept, h, e) =
-    let P = CellHit (rect_of j cell) a.entries b.entries in
+    let P = CellHit (rect_of j cell) a b in
     let W = InCells a.entries b.entries cell (cell + 1) in
     let X = pairs_of a.outlines.items b.outlines.items in
     let known = all_pairs_of (IsOutlineOf a.entries) (IsOutlineOf b.entries) (AreKnown a.entries b.entries) (λ x y h k. (h, k)) a.outlines.items b.outlines.items (recursion_from_All (IsOutlineOf a.entries) a.outlines.items g.of_first.indices) (recursion_from_All (IsOutlineOf b.entries) b.outlines.items g.of_second.indices) in
     record {
       once = λ r w.
-          let ext = an_extent a.entries b.entries (spread_of (a.entries ++ b.entries)) w.cell w.first w.second w.here in
+          let ext = extents_of (spread_of (a.entries ++ b.entries)) w.first.extent w.second.extent w.cell w.here in
           let first = ap (λ (z : Pair). z.first) w.is in
           let second = ap (λ (z : Pair). z.second) w.is in
           let one_b = outline_once r.second b.entries b.outlines.items w.second ext.1.0 g.of_second.outlines g.second.rising (in_from b.entries w.second w.of_second) (sym second) ext.1.1 in
@@ -198,9 +191,9 @@ cell_lists a b j cell ps g (kept, h, e) =
 
 -- the same, as the code has it
 pub cell_told : (a b : Side) (j : Extent) (cell : ℕ) (rect : Extent) (old new ps : List Pair) → IsGrid a b (Some j) → rect ≡ rect_of j cell → old ≡ [] → ps ≡ new
-    → Finds (CellHit rect a.entries b.entries) at_outlines (pairs_of a.outlines.items b.outlines.items) old new → ListsEach (InCells a.entries b.entries cell (cell + 1)) ps
+    → Finds (CellHit rect a b) at_outlines (pairs_of a.outlines.items b.outlines.items) old new → ListsEach (InCells a.entries b.entries cell (cell + 1)) ps
 cell_told a b j cell rect old new ps g e f h found =
     subst (ListsEach (InCells a.entries b.entries cell (cell + 1))) (sym h)
     (cell_lists a b j cell new g
-    (subst (λ l. Finds (CellHit (rect_of j cell) a.entries b.entries) at_outlines (pairs_of a.outlines.items b.outlines.items) l new) f
-    (subst (λ r. Finds (CellHit r a.entries b.entries) at_outlines (pairs_of a.outlines.items b.outlines.items) old new) e found)))
+    (subst (λ l. Finds (CellHit (rect_of j cell) a b) at_outlines (pairs_of a.outlines.items b.outlines.items) l new) f
+    (subst (λ r. Finds (CellHit r a b) at_outlines (pairs_of a.outlines.items b.outlines.items) old new) e found)))

@@ -1,6 +1,6 @@
 -- A cell's positions are those of its rectangle.
 -- For `cell_pairs`, `merge`, `new`, `pairs_grid`, `pairs_plain` and `run`.
-use Rattle.std.proofs.Common.{◌≡◌, ℕ, ◌+◌, ◌*◌, ◌/◌, ◌%◌, ◌<◌, ◌≤◌, ◌==◌, Bool, true, false, ℤ, pos, nat_abs, ◌≤ℤ◌, ◌+ℤ◌, ◌-ℤ◌, inl, inr, arith, refl, sym}
+use Rattle.std.proofs.Common.{◌≡◌, ℕ, ◌+◌, ◌*◌, ◌/◌, ◌%◌, ◌<◌, ◌≤◌, ◌==◌, Bool, true, false, ℤ, pos, nat_abs, ◌≤ℤ◌, ◌+ℤ◌, ◌-ℤ◌, inl, inr, arith, refl, sym, ap}
 use Rattle.std.specs.Prelude.{IsTrue}
 use Rattle.std.proofs.Math.Nat.{mul-le-mul_right, div-mul-le_self, lt-div-mul-add}
 use Rattle.std.proofs.lemmas.Bool.{cases_lt, eq-eqb, eqb-true}
@@ -14,24 +14,26 @@ use Rattle.at_join.specs.Cells.{eighth, cell_of, edge_of, rect_of}
 next_times : (q w : ℕ) → (q + 1) * w ≡ q * w + w
 next_times q w = omega (arith)
 
-part_from : (k w n : ℕ) → k ≤ n / w → k * w ≤ n
-part_from k w n h = let m = mul-le-mul_right w h in let s = div-mul-le_self n w in omega (arith, m, s)
+-- d is in part c of 8 parts of w numbers
+floor_in : (d w c : ℕ) → 0 < w → d * 8 / w ≡ c → ((c * w + 7) / 8 ≤ d) × (d < ((c + 1) * w + 7) / 8)
+floor_in d w c some is =
+    let same = ap (λ q. q * w) is in
+    let least = div-mul-le_self (d * 8) w in
+    let most = lt-div-mul-add {a = d * 8} {b = w} some in
+    (omega (arith, same, least), omega (arith, same, most, next_times c w))
 
-part_to : (k w n : ℕ) → 0 < w → k * w ≤ n → k ≤ n / w
-part_to k w n some h = elim (cases_lt (n / w) k) [
-  | inl lt ↦ absurd (
-      let m = mul-le-mul_right {m = n / w + 1} {n = k} w (omega (arith, lt)) in
-      let s = lt-div-mul-add {a = n} {b = w} some in
-      let e = next_times (n / w) w in
-      omega (arith, m, s, e, h))
-  | inr ge ↦ ge
-]
-
-up_from : (p d : ℕ) → (p + 7) / 8 ≤ d → p ≤ d * 8
-up_from p d h = omega (arith, h)
-
-up_to : (p d : ℕ) → p ≤ d * 8 → (p + 7) / 8 ≤ d
-up_to p d h = omega (arith, h)
+in_floor : (d w c : ℕ) → 0 < w → (c * w + 7) / 8 ≤ d → d < ((c + 1) * w + 7) / 8 → d * 8 / w ≡ c
+in_floor d w c some from to =
+    let q = d * 8 / w in
+    let least = div-mul-le_self (d * 8) w in
+    let most = lt-div-mul-add {a = d * 8} {b = w} some in
+    elim (cases_lt c q) [
+      | inl lt ↦ absurd (let m = mul-le-mul_right {m = c + 1} {n = q} w (omega (arith, lt)) in omega (arith, m, least, to, next_times c w))
+      | inr ge ↦ elim (cases_lt q c) [
+        | inl lt ↦ absurd (let m = mul-le-mul_right {m = q + 1} {n = c} w (omega (arith, lt)) in omega (arith, m, most, from, next_times q w))
+        | inr le ↦ omega (arith, ge, le)
+      ]
+    ]
 
 -- the distance of a number from the low end, and the width
 abbrev dist : ℤ → ℤ → ℕ
@@ -58,34 +60,23 @@ some_width low high = omega (arith)
 in_part : (low high x : ℤ) (c : ℕ) → low ≤ℤ x → (edge_of low high c) ≤ℤ x → x ≤ℤ ((edge_of low high (c + 1)) -ℤ pos 1) → eighth low high x ≡ c
 in_part low high x c h from to =
     let w = wide low high in
-    let d = dist low x in
-    let least = part_to c w (d * 8) (some_width low high) (up_from (c * w) d (past_by low x ((c * w + 7) / 8) h from)) in
-    let most = before_by low x (((c + 1) * w + 7) / 8) h to in
-    elim (cases_lt c (eighth low high x)) [
-      | inl lt ↦ absurd (let n = up_to ((c + 1) * w) d (part_from (c + 1) w (d * 8) (omega (arith, lt))) in omega (arith, n, most))
-      | inr le ↦ omega (arith, least, le)
-    ]
+    in_floor (dist low x) w c (some_width low high) (past_by low x ((c * w + 7) / 8) h from) (before_by low x (((c + 1) * w + 7) / 8) h to)
 
 part_in : (low high x : ℤ) (c : ℕ) → low ≤ℤ x → eighth low high x ≡ c → ((edge_of low high c) ≤ℤ x) × (x ≤ℤ ((edge_of low high (c + 1)) -ℤ pos 1))
 part_in low high x c h is =
     let w = wide low high in
-    let d = dist low x in
-    let least = up_to (c * w) d (part_from c w (d * 8) (omega (arith, is))) in (
-      by_past low x ((c * w + 7) / 8) h least,
-      by_before low x (((c + 1) * w + 7) / 8) h (elim (cases_lt d (((c + 1) * w + 7) / 8)) [
-        | inl lt ↦ lt
-        | inr ge ↦ absurd (let n = part_to (c + 1) w (d * 8) (some_width low high) (up_from ((c + 1) * w) d ge) in omega (arith, n, is))
-      ]),
-    )
+    let t = floor_in (dist low x) w c (some_width low high) is in
+    (by_past low x ((c * w + 7) / 8) h t.0, by_before low x (((c + 1) * w + 7) / 8) h t.1)
 
 below_eight : (low high x : ℤ) → low ≤ℤ x → x ≤ℤ high → eighth low high x < 8
 below_eight low high x h k = elim (cases_lt (eighth low high x) 8) [
   | inl lt ↦ lt
   | inr ge ↦ absurd (
       let w = wide low high in
-      let n = part_from 8 w (dist low x * 8) ge in
+      let n = mul-le-mul_right {m = 8} {n = eighth low high x} w ge in
+      let least = div-mul-le_self (dist low x * 8) w in
       let less : dist low x < w = omega (arith, ints, h, k) in
-      omega (arith, n, less))
+      omega (arith, n, least, less))
 ]
 
 same_bool : (a b : Bool) → (a ≡ true → b ≡ true) → (b ≡ true → a ≡ true) → a ≡ b

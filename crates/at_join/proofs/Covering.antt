@@ -70,15 +70,15 @@ cover_more size covers x outlines from to at up far round h = λ c j d e small l
 ]
 
 -- the outlines of a stretch whose cover is off a window
-pub stretch_off : (size c at : ℕ) (covers : List Extent) (outlines : List Outline) (w : Extent) → Cover size covers outlines → at ≡ c * size → ((d : Extent) → touch_of (get_or covers c d) w ≡ false)
+pub stretch_off : (size c at : ℕ) (covers slice : List Extent) (outlines : List Outline) (w : Extent) → slice ≡ covers → Cover size covers outlines → at ≡ c * size → ((d : Extent) → touch_of (get_or slice c d) w ≡ false)
     → (k : ℕ) (e : Outline) → at ≤ k → k < at + size → k < length outlines → touch_of (get_or outlines k e).extent w ≡ false
-stretch_off size c at covers outlines w cover is off k e from to lt =
+stretch_off size c at covers slice outlines w same cover is off k e from to lt =
     let j : ℕ = k - at in
     let here : c * size + j ≡ k = omega (arith, is, from) in
     let small : j < size = omega (arith, from, to) in
     let d : Extent = e.extent in
     subst (λ (m : ℕ). touch_of (get_or outlines m e).extent w ≡ false) here
-    (covered_off (get_or covers c d) (get_or outlines (c * size + j) e).extent w (cover c j d e small (omega (arith, here, lt))) (off d))
+    (covered_off (get_or covers c d) (get_or outlines (c * size + j) e).extent w (cover c j d e small (omega (arith, here, lt))) (ap (λ (l : List Extent). touch_of (get_or l c d) w) (sym same) ∙ off d))
 
 -- where the stretch behind this one begins
 pub next_at : (size l n from to : ℕ) → from ≡ l * size → to ≡ min n (from + size) → to < n → to ≡ (l + 1) * size

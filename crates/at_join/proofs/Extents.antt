@@ -1,11 +1,11 @@
 -- Extents that touch, enclose one another, and are round the positions of a shape.
 -- For `cell_pairs`, `merge`, `new`, `pairs_grid`, `pairs_plain` and `run`.
-use Rattle.std.proofs.Common.{◌≡◌, Bool, true, false, ◌&&◌, ◌≤ℤ◌, ◌+ℤ◌, pos, List, [], ◌∷◌, Option, Some, None, arith, refl, sym, subst}
+use Rattle.std.proofs.Common.{◌≡◌, Bool, true, false, ◌&&◌, ◌≤ℤ◌, ◌+ℤ◌, pos, List, [], ◌∷◌, Option, Some, None, arith, refl, subst}
 use Rattle.std.specs.Prelude.{int_le, IsTrue}
 use Rattle.std.specs.List.{AllByRecursion}
 use Rattle.std.proofs.lemmas.Int.{ints, clamps}
 use Rattle.std.proofs.lemmas.List.Elements.{recursion_from_All}
-use Rattle.std.proofs.lemmas.Bool.{false_from_ne_true}
+use Rattle.std.proofs.lemmas.Bool.{false_from_ne_true, and_parts}
 use Rattle.at_geom.specs.declared.positions.Pos.{Pos}
 use Rattle.at_geom.specs.declared.shapes.Shape.{Shape}
 use Rattle.at_geom.specs.declared.rectangles.Extent.{Extent}
@@ -19,11 +19,11 @@ use Rattle.at_geom.proofs.ClosedRings.{clash}
 use Rattle.at_join.specs.Boxes.{touch_of, common_of, is_here_of, IsWide, IsSpan}
 
 pub four_true : (a b c d : Bool) → ((a && b) && (c && d)) ≡ true → (a ≡ true) × (b ≡ true) × (c ≡ true) × (d ≡ true)
-four_true true true true true h = (refl, refl, refl, refl)
-four_true true true true false h = absurd (cc)
-four_true true true false d h = absurd (cc)
-four_true true false c d h = absurd (cc)
-four_true false b c d h = absurd (cc)
+four_true a b c d h =
+    let t = and_parts (a && b) (c && d) h in
+    let p = and_parts a b t.0 in
+    let q = and_parts c d t.1 in
+    (p.0, p.1, q.0, q.1)
 
 from_four : (a b c d : Bool) → a ≡ true → b ≡ true → c ≡ true → d ≡ true → ((a && b) && (c && d)) ≡ true
 from_four a b c d e f g h = rw (e, f, g, h) refl
@@ -128,17 +128,23 @@ near_window rect c x y round w h =
 
 -- ---- the extent of positions in range
 
+pub around_span : (x y : Extent) → IsSpan x → IsSpan y → IsSpan (around x y)
+around_span x y h k = record {
+  wide = record { along_x = omega (arith, ints, clamps, h.wide.along_x); along_y = omega (arith, ints, clamps, h.wide.along_y) };
+  low = (omega (arith, ints, clamps, h.low.0, k.low.0), omega (arith, ints, clamps, h.low.1, k.low.1));
+  high = (omega (arith, ints, clamps, h.high.0, k.high.0), omega (arith, ints, clamps, h.high.1, k.high.1));
+}
+
+-- an extent widened by a position is that round both
+abbrev point : Pos → Extent
+point p = record { low = p; high = p }
+
+point_span : (p : Pos) → IsInRange p → IsSpan (point p)
+point_span p r = record { wide = record { along_x = omega (arith, ints); along_y = omega (arith, ints) }; low = r; high = r }
+
 widened_span : (p : Pos) (o : Option Extent) → IsInRange p → ((e : Extent) → o ≡ Some e → IsSpan e) → IsSpan (widened p o)
-widened_span p None r h = record {
-  wide = record { along_x = omega (arith, ints); along_y = omega (arith, ints) };
-  low = r;
-  high = r;
-}
-widened_span p (Some e) r h = let s = h e refl in record {
-  wide = record { along_x = omega (arith, ints, clamps, s.wide.along_x); along_y = omega (arith, ints, clamps, s.wide.along_y) };
-  low = (omega (arith, ints, clamps, r.0, s.low.0), omega (arith, ints, clamps, r.1, s.low.1));
-  high = (omega (arith, ints, clamps, r.0, s.high.0), omega (arith, ints, clamps, r.1, s.high.1));
-}
+widened_span p None r h = point_span p r
+widened_span p (Some e) r h = around_span (point p) e (point_span p r) (h e refl)
 
 spans : (ps : List Pos) (x : Extent) → AllByRecursion IsInRange ps → extent_of ps ≡ Some x → IsSpan x
 spans [] x r e = absurd (cc)
@@ -151,9 +157,6 @@ shape_span s x r e = spans (positions s) x (recursion_from_All IsInRange (positi
 
 -- ---- the extent round two, where there are any
 
-pub around_left : (x y : Extent) → encloses (around x y) x ≡ true
-around_left x y = around_first x y x (encloses_itself x)
-
 pub encloses_through : (x y z : Extent) → encloses x y ≡ true → encloses y z ≡ true → encloses x z ≡ true
 encloses_through x y z h k = let e = enclosing x y h in let f = enclosing y z k in from_enclosing x z (record {
   left = omega (arith, ints, e.left, f.left);
@@ -162,15 +165,13 @@ encloses_through x y z h k = let e = enclosing x y h in let f = enclosing y z k 
   above = omega (arith, ints, e.above, f.above);
 })
 
-pub head_round : (o t : Option Extent) (j x : Extent) → around_both o t ≡ Some j → o ≡ Some x → encloses j x ≡ true
-head_round None t j x e f = absurd (cc)
-head_round (Some y) None j x e f = let s : x ≡ j = cc in rw s (encloses_itself j)
-head_round (Some y) (Some z) j x e f = let s : around y z ≡ j = cc in let t : y ≡ x = cc in subst (λ w. encloses w x ≡ true) s (subst (λ w. encloses (around w z) x ≡ true) (sym t) (around_left x z))
+pub head_has : (x : Extent) (t : Option Extent) → (j : Extent) × (around_both (Some x) t ≡ Some j) × (encloses j x ≡ true)
+head_has x None = (x, refl, encloses_itself x)
+head_has x (Some y) = (around x y, refl, around_first x y x (encloses_itself x))
 
-pub tail_round : (o t : Option Extent) (j x : Extent) → around_both o t ≡ Some j → t ≡ Some x → encloses j x ≡ true
-tail_round None t j x e f = let s : x ≡ j = cc in rw s (encloses_itself j)
-tail_round (Some y) None j x e f = absurd (cc)
-tail_round (Some y) (Some z) j x e f = let s : around y z ≡ j = cc in let t : z ≡ x = cc in subst (λ w. encloses w x ≡ true) s (subst (λ w. encloses (around y w) x ≡ true) (sym t) (around_second y x))
+pub tail_has : (o : Option Extent) (x : Extent) → (j : Extent) × (around_both o (Some x) ≡ Some j) × (encloses j x ≡ true)
+tail_has None x = (x, refl, encloses_itself x)
+tail_has (Some y) x = (around y x, refl, around_second y x)
 
 -- the reference point of two extents lies in an extent round both
 pub reference_inside : (j x y : Extent) → IsWide x → IsWide y → encloses j x ≡ true → encloses j y ≡ true → IsTrue (is_within j (upper x.low y.low))

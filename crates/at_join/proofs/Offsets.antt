@@ -1,7 +1,7 @@
 -- Offsets that rise: each stands once, so a pair of offsets names one pair of entries.
 -- For `cell_pairs`, `merge`, `new`, `pairs_grid`, `pairs_plain` and `run`.
-use Rattle.std.proofs.Common.{◌≡◌, ℕ, zero, suc, ◌+◌, ◌<◌, ◌==◌, Bool, true, false, ◌&&◌, cond, List, [], ◌∷◌, ◌++◌, map, Option, Some, None, inl, inr, arith, refl, sym, ap, subst, ◌∙◌}
-use Rattle.std.specs.Prelude.{count_by, Contains}
+use Rattle.std.proofs.Common.{◌≡◌, ◌≢◌, ℕ, zero, suc, ◌+◌, ◌<◌, ◌==◌, Bool, true, false, ◌&&◌, cond, List, [], ◌∷◌, ◌++◌, map, Option, Some, None, inl, inr, arith, refl, sym, ap, subst, ◌∙◌}
+use Rattle.std.specs.Prelude.{count_by, sum_by, Contains}
 use Rattle.std.specs.List.{AllByRecursion}
 use Rattle.std.specs.List.Sorted.{IsPermutation}
 use Rattle.std.proofs.lemmas.Bool.{eq-eqb, ne_eqb}
@@ -16,7 +16,7 @@ use Rattle.at_join.specs.declared.outlines.Outline.{Outline}
 use Rattle.at_query.specs.Results.{pairs_of}
 use Rattle.at_join.specs.Cells.{is_pair, times}
 use Rattle.at_join.specs.Sides.{outline_of, outlined}
-use Rattle.at_join.proofs.FoundLists.{count_mapped}
+use Rattle.at_join.proofs.FoundLists.{count_joined, count_mapped}
 
 abbrev pub In : {X : Type 0} → X → List X → Type 0
 In {X} x xs = SomeOf (λ (y : X). y ≡ x) xs
@@ -64,48 +64,59 @@ one_entry (x ∷ es) e f r (inl h) (inr k) same = absurd (let lt = of_all (λ (y
 one_entry (x ∷ es) e f r (inr h) (inl k) same = absurd (let lt = of_all (λ (y : Entry). x.at < y.at) es e (above x es r) h in let s = ap (λ (y : Entry). y.at) k in omega (arith, lt, s, same))
 one_entry (x ∷ es) e f r (inr h) (inr k) same = one_entry es e f (rest_rises x es r) h k same
 
--- ---- how often an offset stands among the outlines
+-- ---- sums in which one offset counts
 
-abbrev pub has : ℕ → Outline → Bool
-has n q = q.at == n
+no_other : (w : Entry → ℕ) (n : ℕ) (es : List Entry) → ((e : Entry) → e.at ≢ n → w e ≡ 0) → AreAbove n es → sum_by w es ≡ 0
+no_other w n [] none h = refl
+no_other w n (e ∷ es) none h =
+    let off = none e (λ s. let lt = h.0 in omega (arith, lt, s)) in
+    omega (arith, sum_by-cons w e es, off, no_other w n es none h.1)
 
-count_joined : {X : Type 0} (p : X → Bool) (xs ys : List X) → count_by p (xs ++ ys) ≡ count_by p xs + count_by p ys
-count_joined p xs ys = sum_by-append (λ x. cond (p x) 1 0) xs ys
+sum_one : (w : Entry → ℕ) (n : ℕ) (es : List Entry) (e : Entry) → ((e : Entry) → e.at ≢ n → w e ≡ 0) → Rises es → In e es → e.at ≡ n → sum_by w es ≡ w e
+sum_one w n [] e none r h at = absurd h
+sum_one w n (y ∷ es) e none r (inl h) at =
+    let rest = no_other w n es none (subst (λ m. AreAbove m es) (ap (λ (z : Entry). z.at) h ∙ at) (above y es r)) in
+    omega (arith, sum_by-cons w y es, rest, ap w h)
+sum_one w n (y ∷ es) e none r (inr h) at =
+    let lt = of_all (λ (z : Entry). y.at < z.at) es e (above y es r) h in
+    let off = none y (λ s. omega (arith, lt, s, at)) in
+    omega (arith, sum_by-cons w y es, off, sum_one w n es e none (rest_rises y es r) h at)
 
-one_outline : (n k at : ℕ) (x : Extent) → at ≡ n → count_by (has n) (outline_of k at (Some x)) ≡ 1
-one_outline n k at x e = rw (eq-eqb at n e) refl
+-- an entry has its offset once
+pub entry_once : (n : ℕ) (es : List Entry) (e : Entry) → Rises es → In e es → e.at ≡ n → count_by (λ (z : Entry). z.at == n) es ≡ 1
+entry_once n es e r h at = sum_one (λ z. cond (z.at == n) 1 0) n es e (λ z ne. ap {B = ℕ} (λ b. cond b 1 0) (ne_eqb z.at n ne)) r h at ∙ ap {B = ℕ} (λ b. cond b 1 0) (eq-eqb e.at n at)
 
-no_such_outline : (n k at : ℕ) (o : Option Extent) → (at ≡ n → ⊥) → count_by (has n) (outline_of k at o) ≡ 0
-no_such_outline n k at None d = refl
-no_such_outline n k at (Some x) d = rw (ne_eqb at n d) refl
+-- what an extent counts, where there is one
+abbrev pub optional : (Extent → ℕ) → Option Extent → ℕ
+optional w None = 0
+optional w (Some x) = w x
 
-none_above : (n k : ℕ) (es : List Entry) → AreAbove n es → count_by (has n) (outlined k es) ≡ 0
-none_above n k [] h = refl
-none_above n k (e ∷ es) h =
-    let a = no_such_outline n k e.at e.extent (λ s. let lt = h.0 in omega (arith, lt, s)) in
-    let b = none_above n (k + 1) es h.1 in
-    let c = count_joined (has n) (outline_of k e.at e.extent) (outlined (k + 1) es) in
-    omega (arith, a, b, c)
+outline_sum : (w : ℕ → Extent → ℕ) (k at : ℕ) (o : Option Extent) → sum_by (λ (q : Outline). w q.at q.extent) (outline_of k at o) ≡ optional (w at) o
+outline_sum w k at None = refl
+outline_sum w k at (Some x) = let e = sum_by-cons (λ (q : Outline). w q.at q.extent) (record { extent = x; at = at; index = k }) [] in omega (arith, e)
+
+pub outlined_sum : (w : ℕ → Extent → ℕ) (k : ℕ) (es : List Entry) → sum_by (λ (q : Outline). w q.at q.extent) (outlined k es) ≡ sum_by (λ (e : Entry). optional (w e.at) e.extent) es
+outlined_sum w k [] = refl
+outlined_sum w k (e ∷ es) =
+    let parts = sum_by-append (λ (q : Outline). w q.at q.extent) (outline_of k e.at e.extent) (outlined (k + 1) es) in
+    let one = outline_sum w k e.at e.extent in
+    let rest = outlined_sum w (k + 1) es in
+    let whole = sum_by-cons (λ (z : Entry). optional (w z.at) z.extent) e es in
+    omega (arith, parts, one, rest, whole)
+
+none_here : (m : ℕ) (o : Option Extent) → m ≡ 0 → optional (λ x. m) o ≡ 0
+none_here m None e = refl
+none_here m (Some x) e = e
 
 -- an entry with an extent has one outline
-pub outlined_once : (n k : ℕ) (es : List Entry) (e : Entry) (x : Extent) → Rises es → In e es → e.at ≡ n → e.extent ≡ Some x → count_by (has n) (outlined k es) ≡ 1
-outlined_once n k [] e x r h at is = absurd h
-outlined_once n k (y ∷ es) e x r (inl h) at is =
-    let same : y.extent ≡ Some x = ap (λ (z : Entry). z.extent) h ∙ is in
-    let here : y.at ≡ n = ap (λ (z : Entry). z.at) h ∙ at in
-    let a = ap (λ o. count_by (has n) (outline_of k y.at o)) same ∙ one_outline n k y.at x here in
-    let b = none_above n (k + 1) es (subst (λ m. AreAbove m es) here (above y es r)) in
-    let c = count_joined (has n) (outline_of k y.at y.extent) (outlined (k + 1) es) in
-    omega (arith, a, b, c)
-outlined_once n k (y ∷ es) e x r (inr h) at is =
-    let lt = of_all (λ (z : Entry). y.at < z.at) es e (above y es r) h in
-    let a = no_such_outline n k y.at y.extent (λ s. omega (arith, lt, s, at)) in
-    let b = outlined_once n (k + 1) es e x (rest_rises y es r) h at is in
-    let c = count_joined (has n) (outline_of k y.at y.extent) (outlined (k + 1) es) in
-    omega (arith, a, b, c)
-
-pub outline_once : (n : ℕ) (es : List Entry) (outlines : List Outline) (e : Entry) (x : Extent) → IsPermutation (outlined 0 es) outlines → Rises es → In e es → e.at ≡ n → e.extent ≡ Some x → count_by (has n) outlines ≡ 1
-outline_once n es outlines e x moved r h at is = sum_by-IsPermutation (λ q. cond (has n q) 1 0) (outlined 0 es) outlines moved ∙ outlined_once n 0 es e x r h at is
+pub outline_once : (n : ℕ) (es : List Entry) (outlines : List Outline) (e : Entry) (x : Extent) → IsPermutation (outlined 0 es) outlines → Rises es → In e es → e.at ≡ n → e.extent ≡ Some x → count_by (λ (q : Outline). q.at == n) outlines ≡ 1
+outline_once n es outlines e x moved r h at is =
+    let w : ℕ → Extent → ℕ = λ m y. cond (m == n) 1 0 in
+    sum_by-IsPermutation (λ q. cond (q.at == n) 1 0) (outlined 0 es) outlines moved
+    ∙ outlined_sum w 0 es
+    ∙ sum_one (λ z. optional (w z.at) z.extent) n es e (λ z ne. none_here (cond (z.at == n) 1 0) z.extent (ap {B = ℕ} (λ b. cond b 1 0) (ne_eqb z.at n ne))) r h at
+    ∙ ap (optional (w e.at)) is
+    ∙ ap {B = ℕ} (λ b. cond b 1 0) (eq-eqb e.at n at)
 
 -- ---- how often a pair of offsets stands among the pairs
 

@@ -3,7 +3,6 @@
 use Rattle.std.proofs.Common.{◌≡◌, ℕ, ◌+◌, ◌<◌, ◌≤◌, Bool, cond, List, [], ◌∷◌, ◌++◌, length, get_or, drop, map, Option, Some, None, inl, inr, arith, refl, sym, ap, subst, ◌∙◌}
 use Rattle.std.specs.Prelude.{count_by, sum_by}
 use Rattle.std.specs.List.{AllByRecursion}
-use Rattle.std.proofs.lemmas.Int.{ints, clamps}
 use Rattle.std.proofs.lemmas.List.{drop_more}
 use Rattle.std.proofs.lemmas.List.Sums.{sum_by-append, sum_by-cons}
 use Rattle.std.proofs.lemmas.List.Sorted.{sum_by-IsPermutation}
@@ -17,10 +16,10 @@ use Rattle.at_join.specs.declared.sides.Side.{Side}
 use Rattle.at_join.specs.Boxes.{is_here_of, IsSpan}
 use Rattle.at_query.specs.Results.{pairs_of}
 use Rattle.at_join.specs.Cells.{rect_of, spread_of, belongs}
-use Rattle.at_join.specs.Sides.{IsGrid, outline_of, outlined, spread_onto, is_cell_here}
-use Rattle.at_join.proofs.Extents.{shape_span}
+use Rattle.at_join.specs.Sides.{IsGrid, outlined, spread_onto, is_cell_here}
+use Rattle.at_join.proofs.Extents.{around_span, shape_span}
 use Rattle.at_join.proofs.FoundLists.{count_mapped}
-use Rattle.at_join.proofs.Offsets.{In}
+use Rattle.at_join.proofs.Offsets.{In, optional, outlined_sum}
 use Rattle.at_join.proofs.CellPairs.{entries_here}
 
 pub onto_last : (start : Option Extent) (es : List Entry) (i : ℕ) (d : Entry) → i < length es → spread_onto start (drop i es) ≡ around_both (get_or es i d).extent (spread_onto start (drop (i + 1) es))
@@ -39,13 +38,6 @@ joint_is a b x y e f = f ∙ ap (λ o. spread_onto o a) e ∙ onto_joined a b
 
 -- ---- it has a position, and its corners are in range
 
-around_span : (x y : Extent) → IsSpan x → IsSpan y → IsSpan (around x y)
-around_span x y h k = record {
-  wide = record { along_x = omega (arith, ints, clamps, h.wide.along_x); along_y = omega (arith, ints, clamps, h.wide.along_y) };
-  low = (omega (arith, ints, clamps, h.low.0, k.low.0), omega (arith, ints, clamps, h.low.1, k.low.1));
-  high = (omega (arith, ints, clamps, h.high.0, k.high.0), omega (arith, ints, clamps, h.high.1, k.high.1));
-}
-
 both_span : (o t : Option Extent) (j : Extent) → ((x : Extent) → o ≡ Some x → IsSpan x) → ((x : Extent) → t ≡ Some x → IsSpan x) → around_both o t ≡ Some j → IsSpan j
 both_span None t j h k e = k j e
 both_span (Some x) None j h k e = h j e
@@ -60,27 +52,9 @@ grid_span a b j o g e = spread_span (a.entries ++ b.entries) j (All-append IsPro
 
 -- ---- how many pairs of outlines are of a cell
 
--- what an extent counts, where there is one
-abbrev optional : (Extent → ℕ) → Option Extent → ℕ
-optional n None = 0
-optional n (Some x) = n x
-
-outline_sum : (n : Extent → ℕ) (k at : ℕ) (o : Option Extent) → sum_by (λ (q : Outline). n q.extent) (outline_of k at o) ≡ optional n o
-outline_sum n k at None = refl
-outline_sum n k at (Some x) = let e = sum_by-cons (λ (q : Outline). n q.extent) (record { extent = x; at = at; index = k }) [] in omega (arith, e)
-
 same_optional : (n m : Extent → ℕ) → ((x : Extent) → n x ≡ m x) → (o : Option Extent) → optional n o ≡ optional m o
 same_optional n m e None = refl
 same_optional n m e (Some x) = e x
-
-outlined_sum : (n : Extent → ℕ) (k : ℕ) (es : List Entry) → sum_by (λ (q : Outline). n q.extent) (outlined k es) ≡ sum_by (λ (e : Entry). optional n e.extent) es
-outlined_sum n k [] = refl
-outlined_sum n k (e ∷ es) =
-    let parts = sum_by-append (λ (q : Outline). n q.extent) (outline_of k e.at e.extent) (outlined (k + 1) es) in
-    let one = outline_sum n k e.at e.extent in
-    let rest = outlined_sum n (k + 1) es in
-    let whole = sum_by-cons (λ (z : Entry). optional n z.extent) e es in
-    omega (arith, parts, one, rest, whole)
 
 rows_sum : {X : Type 0} (p : X × X → Bool) (xs ys : List X) → count_by p (pairs_of xs ys) ≡ sum_by (λ (x : X). count_by (λ (y : X). p (x, y)) ys) xs
 rows_sum p [] ys = refl
@@ -123,9 +97,9 @@ cell_steps a b j cell g =
     let entry_row : Extent → ℕ = λ x. sum_by (λ (f : Entry). optional (λ y. cond (is_here_of rect x y) 1 0) f.extent) b.entries in
     let rows = rows_sum (is_cell_here rect) a.outlines.items b.outlines.items in
     let moved = sum_by-IsPermutation (λ (p : Outline). row p.extent) (outlined 0 a.entries) a.outlines.items g.of_first.outlines in
-    let first = outlined_sum row 0 a.entries in
+    let first = outlined_sum (λ at. row) 0 a.entries in
     let inner : (x : Extent) → row x ≡ entry_row x = λ x.
-    sum_by-IsPermutation (λ (q : Outline). cond (is_here_of rect x q.extent) 1 0) (outlined 0 b.entries) b.outlines.items g.of_second.outlines ∙ outlined_sum (λ y. cond (is_here_of rect x y) 1 0) 0 b.entries in
+    sum_by-IsPermutation (λ (q : Outline). cond (is_here_of rect x q.extent) 1 0) (outlined 0 b.entries) b.outlines.items g.of_second.outlines ∙ outlined_sum (λ at y. cond (is_here_of rect x y) 1 0) 0 b.entries in
     let le = sum_least (λ (e : Entry). optional row e.extent) (λ (e : Entry). count_by (λ (f : Entry). belongs a.entries b.entries cell (e, f)) b.entries) a.entries
     (λ e h. let s = same_optional row entry_row inner e.extent in let n = row_counts a b j cell e e.extent g h refl in omega (arith, s, n)) in
     let whole = rows_sum (belongs a.entries b.entries cell) a.entries b.entries in

@@ -1,12 +1,9 @@
 -- Stretches of a side's outlines: what is near one, and what is found with these is found with all.
 -- For `cell_pairs`, `merge` and `run`.
-use Rattle.std.proofs.Common.{◌≡◌, ℕ, ◌+◌, ◌-◌, ◌<◌, ◌≤◌, Bool, true, List, [], ◌++◌, length, get_or, take, drop, map, arith, sym, ap, subst, ◌∙◌}
-use Rattle.std.specs.Prelude.{All, count_by, cond}
-use Rattle.std.proofs.lemmas.List.{get_or-drop, get_or-take, map-id}
+use Rattle.std.proofs.Common.{◌≡◌, ℕ, ◌+◌, ◌-◌, ◌<◌, ◌≤◌, true, List, [], ◌++◌, get_or, take, drop, map, arith, sym, ap, subst, ◌∙◌}
+use Rattle.std.specs.Prelude.{All, count_by}
+use Rattle.std.proofs.lemmas.List.{map-id}
 use Rattle.std.proofs.lemmas.List.Elements.{All-take, All-drop, All-weaker, All-from_recursion, recursion_from_All}
-use Rattle.std.proofs.lemmas.List.Sums.{sum_by-append}
-use Rattle.std.proofs.lemmas.Grind.{flat_map-append}
-use Rattle.std.proofs.Math.Seq.{take-add}
 use Rattle.at_geom.specs.declared.rectangles.Extent.{Extent}
 use Rattle.at_geom.specs.Shapes.{encloses}
 use Rattle.at_query.specs.Results.{Keeps, pairs_of}
@@ -14,12 +11,12 @@ use Rattle.at_query.specs.declared.answer.parts.Entry.{Entry}
 use Rattle.at_query.specs.declared.answer.answers.Pair.{Pair}
 use Rattle.at_query.proofs.KeptLists.{kept_all}
 use Rattle.at_join.specs.declared.outlines.Outline.{Outline}
+use Rattle.at_join.specs.declared.sides.Side.{Side}
 use Rattle.at_join.specs.Boxes.{IsWide, common_of}
 use Rattle.at_join.specs.Meetings.{Finds}
-use Rattle.at_join.specs.Sides.{IsOutlineOf, CellHit, at_outlines, is_cell_here, IsInWindow, itself}
-use Rattle.at_join.proofs.Covering.{part_length}
+use Rattle.at_join.specs.Sides.{IsSide, IsOutlineOf, CellHit, at_outlines, is_cell_here, IsInWindow, itself}
 use Rattle.at_join.proofs.Extents.{near_window}
-use Rattle.at_join.proofs.FoundLists.{finds_both}
+use Rattle.at_join.proofs.FoundLists.{part_of, take_to, part_all, finds_next, pairs_next, count_next}
 use Rattle.at_join.proofs.Sifted.{Sifts, sifts_pairs, sifts_kept, finds_sifted, count_sifted}
 
 -- what was found as it is in a list that was empty is what is kept
@@ -30,7 +27,7 @@ near_all : (R : Outline → Type 0) (w : Extent) (ys near : List Outline) → Ke
 near_all R w ys near k all = All-from_recursion R near (kept_all (IsInWindow w) R ys near k (recursion_from_All R ys all))
 
 -- where the outlines of a stretch lie in an extent, their pairs in the rectangle are with outlines near it
-sifts_near : (rect round : Extent) (a b : List Entry) (xs ys near : List Outline) → All (λ (p : Outline). encloses round p.extent ≡ true) xs → All (λ (q : Outline). IsWide q.extent) ys
+sifts_near : (rect round : Extent) (a b : Side) (xs ys near : List Outline) → All (λ (p : Outline). encloses round p.extent ≡ true) xs → All (λ (q : Outline). IsWide q.extent) ys
     → Keeps (IsInWindow (common_of round rect)) ys near → Sifts (CellHit rect a b) (pairs_of xs ys) (pairs_of xs near)
 sifts_near rect round a b xs ys near inside wide kept =
     sifts_pairs (CellHit rect a b) xs ys near (recursion_from_All (λ (p : Outline). Sifts (λ (q : Outline). CellHit rect a b (p, q)) ys near) xs
@@ -38,94 +35,51 @@ sifts_near rect round a b xs ys near inside wide kept =
     sifts_kept (λ (q : Outline). CellHit rect a b (p, q)) (IsInWindow (common_of round rect)) ys near
     (recursion_from_All (λ (q : Outline). CellHit rect a b (p, q) → IsInWindow (common_of round rect) q) ys
     (All-weaker (λ (q : Outline). IsWide q.extent) (λ (q : Outline). CellHit rect a b (p, q) → IsInWindow (common_of round rect) q)
-    (λ q w (e, at, (here, f, at_f, meet)). near_window rect round p.extent q.extent inner w here) ys wide)) kept) xs inside))
+    (λ q w hit. near_window rect round p.extent q.extent inner w hit.0) ys wide)) kept) xs inside))
 
 -- ---- one stretch more
 
--- the pairs of the outlines from one to another
-pairs_to : {X : Type 0} (xs ys : List X) (from to : ℕ) → from ≤ to → pairs_of (take to xs) ys ≡ pairs_of (take from xs) ys ++ pairs_of (take (to - from) (drop from xs)) ys
-pairs_to {X} xs ys from to le =
-    let e : to ≡ from + (to - from) = omega (arith, le) in
-    ap (λ (n : ℕ). pairs_of (take n xs) ys) e
-    ∙ ap (λ (l : List X). pairs_of l ys) (take-add from (to - from) xs)
-    ∙ flat_map-append (λ (x : X). map (λ (y : X). (x, y)) ys) (take from xs) (take (to - from) (drop from xs))
+pub stretch_known : (es : List Entry) (xs outlines : List Outline) (from to : ℕ) → outlines ≡ xs → All (IsOutlineOf es) xs → All (IsOutlineOf es) (part_of outlines from to)
+stretch_known es xs outlines from to same all =
+    All-take (IsOutlineOf es) (to - from) (drop from outlines) (All-drop (IsOutlineOf es) from outlines (subst (All (IsOutlineOf es)) (sym same) all))
 
-finds_to : {X Y : Type 0} (P : X × X → Type 0) (f : X × X → Y) (xs ys : List X) (from to : ℕ) (old mid new : List Y) → from ≤ to
-    → Finds P f (pairs_of (take from xs) ys) old mid → Finds P f (pairs_of (take (to - from) (drop from xs)) ys) mid new → Finds P f (pairs_of (take to xs) ys) old new
-finds_to {X} P f xs ys from to old mid new le h k =
-    subst (λ (l : List (X × X)). Finds P f l old new) (sym (pairs_to xs ys from to le))
-    (finds_both P f (pairs_of (take from xs) ys) (pairs_of (take (to - from) (drop from xs)) ys) old mid new h k)
+pub near_known : (es : List Entry) (ys cleared near slice : List Outline) (window : Extent) → slice ≡ near → cleared ≡ [] → Finds (IsInWindow window) itself ys cleared near → All (IsOutlineOf es) ys → All (IsOutlineOf es) slice
+near_known es ys cleared near slice window same none h all =
+    subst (All (IsOutlineOf es)) (sym same) (near_all (IsOutlineOf es) window ys near (found_kept (IsInWindow window) ys cleared near none h) all)
 
-count_to : {X : Type 0} (p : X × X → Bool) (xs ys : List X) (from to : ℕ) → from ≤ to
-    → count_by p (pairs_of (take to xs) ys) ≡ count_by p (pairs_of (take from xs) ys) + count_by p (pairs_of (take (to - from) (drop from xs)) ys)
-count_to p xs ys from to le =
-    ap (count_by p) (pairs_to xs ys from to le)
-    ∙ sum_by-append (λ x. cond (p x) 1 0) (pairs_of (take from xs) ys) (pairs_of (take (to - from) (drop from xs)) ys)
+-- a part of the first side's outlines with those near it, with which all its pairs of the rectangle are found
+pub record IsPart (rect : Extent) (a b : Side) (outlines slice : List Outline) (from to : ℕ) : Type 0 where
+  pub next : take to a.outlines.items ≡ take from a.outlines.items ++ part_of a.outlines.items from to
+  pub sifted : Sifts (CellHit rect a b) (pairs_of (part_of a.outlines.items from to) b.outlines.items) (pairs_of (part_of outlines from to) slice)
 
--- what holds of each outline from one to another holds of the part
-part_all : (R : Outline → Type 0) (xs : List Outline) (from to : ℕ) → from ≤ to → to ≤ length xs
-    → ((k : ℕ) (e : Outline) → from ≤ k → k < to → k < length xs → R (get_or xs k e)) → All R (take (to - from) (drop from xs))
-part_all R xs from to le end h = λ k e lt.
-    let n = part_length xs from to le end in
-    let small : k < to - from = omega (arith, lt, n) in
-    subst R (sym (get_or-take (to - from) (drop from xs) k e small ∙ get_or-drop from xs k e)) (h (from + k) e (omega arith) (omega (arith, small)) (omega (arith, small, end)))
+pub part_is : (rect round window : Extent) (a b : Side) (outlines cleared near slice : List Outline) (from to : ℕ) → IsSide b → outlines ≡ a.outlines.items → slice ≡ near → from < to
+    → ((k : ℕ) (e : Outline) → from ≤ k → k < to → encloses round (get_or a.outlines.items k e).extent ≡ true) → window ≡ common_of round rect → cleared ≡ [] → Finds (IsInWindow window) itself b.outlines.items cleared near
+    → IsPart rect a b outlines slice from to
+part_is rect round window a b outlines cleared near slice from to side same same_near lt inside is none h =
+    let xs = a.outlines.items in
+    let ys = b.outlines.items in
+    let sifted = sifts_near rect round a b (part_of xs from to) ys near (part_all (λ (p : Outline). encloses round p.extent ≡ true) xs from to (λ k e f t below. inside k e f t)) side.wide
+    (subst (λ (w : Extent). Keeps (IsInWindow w) ys near) is (found_kept (IsInWindow window) ys cleared near none h)) in
+    record {
+      next = take_to xs from to (omega (arith, lt));
+      sifted = subst (λ (l : List Outline). Sifts (CellHit rect a b) (pairs_of (part_of xs from to) ys) (pairs_of (part_of l from to) slice)) (sym same)
+          (subst (λ (l : List Outline). Sifts (CellHit rect a b) (pairs_of (part_of xs from to) ys) (pairs_of (part_of xs from to) l)) (sym same_near) sifted);
+    }
 
--- the outlines from one to another
-abbrev pub part_of : List Outline → ℕ → ℕ → List Outline
-part_of xs from to = take (to - from) (drop from xs)
-
--- what slices of the lists are
-pub record AreSlices (first second a b : List Entry) (outlines xs slice near : List Outline) : Type 0 where
-  pub of_first : first ≡ a
-  pub of_second : second ≡ b
-  pub of_outlines : outlines ≡ xs
-  pub of_near : slice ≡ near
-
-pub slices : {first second a b : List Entry} {outlines xs slice near : List Outline} → first ≡ a → second ≡ b → outlines ≡ xs → slice ≡ near → AreSlices first second a b outlines xs slice near
-slices e f g h = record { of_first = e; of_second = f; of_outlines = g; of_near = h }
-
-pub outlines_known : {first second a b : List Entry} {outlines xs slice near : List Outline} (ys cleared : List Outline) (window : Extent) (from to : ℕ) → AreSlices first second a b outlines xs slice near
-    → All (IsOutlineOf a) xs → All (IsOutlineOf b) ys → cleared ≡ [] → Finds (IsInWindow window) itself ys cleared near → All (IsOutlineOf first) (part_of outlines from to) × All (IsOutlineOf second) slice
-outlines_known {first} {second} {a} {b} {outlines} {xs} {slice} {near} ys cleared window from to same all others none h = (
-  subst (λ (es : List Entry). All (IsOutlineOf es) (part_of outlines from to)) (sym same.of_first)
-      (All-take (IsOutlineOf a) (to - from) (drop from outlines) (All-drop (IsOutlineOf a) from outlines (subst (All (IsOutlineOf a)) (sym same.of_outlines) all))),
-  subst (λ (es : List Entry). All (IsOutlineOf es) slice) (sym same.of_second)
-      (subst (All (IsOutlineOf b)) (sym same.of_near) (near_all (IsOutlineOf b) window ys near (found_kept (IsInWindow window) ys cleared near none h) others)),
-)
-
--- a part of a stretch with the outlines near it, with which all its pairs of the rectangle are found
-pub record IsPart (rect : Extent) (first second a b : List Entry) (outlines xs ys slice near : List Outline) (from to : ℕ) : Type 0 where
-  pub same : AreSlices first second a b outlines xs slice near
-  pub order : from < to
-  pub sifted : Sifts (CellHit rect a b) (pairs_of (part_of xs from to) ys) (pairs_of (part_of xs from to) near)
-
-pub part_is : (rect round window : Extent) {first second a b : List Entry} {outlines xs slice near : List Outline} (ys cleared : List Outline) (from to : ℕ) → AreSlices first second a b outlines xs slice near → from < to → to ≤ length xs
-    → ((k : ℕ) (e : Outline) → from ≤ k → k < to → encloses round (get_or xs k e).extent ≡ true) → All (λ (q : Outline). IsWide q.extent) ys
-    → window ≡ common_of round rect → cleared ≡ [] → Finds (IsInWindow window) itself ys cleared near → IsPart rect first second a b outlines xs ys slice near from to
-part_is rect round window {first} {second} {a} {b} {outlines} {xs} {slice} {near} ys cleared from to same lt end inside wide is none h = record {
-  same = same;
-  order = lt;
-  sifted = sifts_near rect round a b (part_of xs from to) ys near
-      (part_all (λ (p : Outline). encloses round p.extent ≡ true) xs from to (omega (arith, lt)) end (λ k e f t below. inside k e f t)) wide
-      (subst (λ (w : Extent). Keeps (IsInWindow w) ys near) is (found_kept (IsInWindow window) ys cleared near none h));
-}
-
-module _ {rect : Extent} {first second a b : List Entry} {outlines xs ys slice near : List Outline} {from to : ℕ} where
-  pub part_found : (old mid new : List Pair) → IsPart rect first second a b outlines xs ys slice near from to → Finds (CellHit rect a b) at_outlines (pairs_of (take from xs) ys) old mid
-      → Finds (CellHit rect first second) at_outlines (pairs_of (part_of outlines from to) slice) mid new → Finds (CellHit rect a b) at_outlines (pairs_of (take to xs) ys) old new
+module _ {rect : Extent} {a b : Side} {outlines slice : List Outline} {from to : ℕ} where
+  pub part_found : (old mid new : List Pair) → IsPart rect a b outlines slice from to → Finds (CellHit rect a b) at_outlines (pairs_of (take from a.outlines.items) b.outlines.items) old mid
+      → Finds (CellHit rect a b) at_outlines (pairs_of (part_of outlines from to) slice) mid new → Finds (CellHit rect a b) at_outlines (pairs_of (take to a.outlines.items) b.outlines.items) old new
   part_found old mid new part h k =
-      let one = subst (λ (l : List Entry). Finds (CellHit rect l second) at_outlines (pairs_of (part_of outlines from to) slice) mid new) part.same.of_first k in
-      let two = subst (λ (l : List Entry). Finds (CellHit rect a l) at_outlines (pairs_of (part_of outlines from to) slice) mid new) part.same.of_second one in
-      let three = subst (λ (l : List Outline). Finds (CellHit rect a b) at_outlines (pairs_of (part_of l from to) slice) mid new) part.same.of_outlines two in
-      let four = subst (λ (l : List Outline). Finds (CellHit rect a b) at_outlines (pairs_of (part_of xs from to) l) mid new) part.same.of_near three in
-      finds_to (CellHit rect a b) at_outlines xs ys from to old mid new (omega (arith, part.order)) h
-      (finds_sifted (CellHit rect a b) at_outlines (pairs_of (part_of xs from to) ys) (pairs_of (part_of xs from to) near) mid new part.sifted four)
+      let xs = a.outlines.items in
+      let ys = b.outlines.items in
+      finds_next (CellHit rect a b) at_outlines (pairs_of (take from xs) ys) (pairs_of (part_of xs from to) ys) old mid new (pairs_next (take from xs) (part_of xs from to) ys part.next) h
+      (finds_sifted (CellHit rect a b) at_outlines (pairs_of (part_of xs from to) ys) (pairs_of (part_of outlines from to) slice) mid new part.sifted k)
 
-  pub part_stepped : (old mid new : ℕ) → IsPart rect first second a b outlines xs ys slice near from to → mid ≤ old + count_by (is_cell_here rect) (pairs_of (take from xs) ys)
-      → new ≤ mid + count_by (is_cell_here rect) (pairs_of (part_of outlines from to) slice) → new ≤ old + count_by (is_cell_here rect) (pairs_of (take to xs) ys)
+  pub part_stepped : (old mid new : ℕ) → IsPart rect a b outlines slice from to → mid ≤ old + count_by (is_cell_here rect) (pairs_of (take from a.outlines.items) b.outlines.items)
+      → new ≤ mid + count_by (is_cell_here rect) (pairs_of (part_of outlines from to) slice) → new ≤ old + count_by (is_cell_here rect) (pairs_of (take to a.outlines.items) b.outlines.items)
   part_stepped old mid new part h k =
-      let three = subst (λ (l : List Outline). new ≤ mid + count_by (is_cell_here rect) (pairs_of (part_of l from to) slice)) part.same.of_outlines k in
-      let four = subst (λ (l : List Outline). new ≤ mid + count_by (is_cell_here rect) (pairs_of (part_of xs from to) l)) part.same.of_near three in
-      let less = count_sifted (is_cell_here rect) (CellHit rect a b) (pairs_of (part_of xs from to) ys) (pairs_of (part_of xs from to) near) part.sifted in
-      let all = count_to (is_cell_here rect) xs ys from to (omega (arith, part.order)) in
-      omega (arith, h, four, less, all)
+      let xs = a.outlines.items in
+      let ys = b.outlines.items in
+      let less = count_sifted (is_cell_here rect) (CellHit rect a b) (pairs_of (part_of xs from to) ys) (pairs_of (part_of outlines from to) slice) part.sifted in
+      let all = count_next (is_cell_here rect) (take from xs) (part_of xs from to) ys part.next in
+      omega (arith, h, k, less, all)

@@ -24,10 +24,3 @@ Finds {X} P f xs old new = (kept : List X) × Keeps P xs kept × (new ≡ old ++
 -- all pairs that meet, in order of the first list, then the second
 abbrev pub IsAllPairs : List Entry → List Entry → List Pair → Type 0
 IsAllPairs a b ps = Finds Meeting at_entries (pairs_of a b) [] ps
-
--- what one entry of the first list has
-abbrev pub MeetsWith : Entry → Entry → Type 0
-MeetsWith e f = Meet e.shape f.shape
-
-abbrev pub pair_with : Entry → Entry → Pair
-pair_with e f = record { first = e.at; second = f.at }

@@ -4,7 +4,6 @@ use Rattle.std.specs.Prelude.{◌≡◌, ℕ, ◌+◌, ◌*◌, ◌<◌, Bool, t
 use Rattle.std.specs.Prelude.{slice_index_or}
 use Rattle.std.specs.List.Sorted.{IsPermutation}
 use Rattle.at_geom.specs.declared.rectangles.Extent.{Extent}
-use Rattle.at_geom.specs.declared.shapes.Shape.{Shape}
 use Rattle.at_geom.specs.Shapes.{encloses, Meet}
 use Rattle.at_query.specs.declared.answer.parts.Entry.{Entry}
 use Rattle.at_query.specs.declared.answer.answers.Pair.{Pair}
@@ -52,14 +51,10 @@ is_row_here rect p q = is_here_of rect p.extent q.extent
 abbrev pub is_cell_here : Extent → Outline × Outline → Bool
 is_cell_here rect (p, q) = is_here_of rect p.extent q.extent
 
--- the pair is one of the rectangle, and the shape and that of the entry of the second outline meet
-abbrev pub RowHit : Extent → Outline → Shape → List Entry → Outline → Type 0
-RowHit rect p shape b q = (is_here_of rect p.extent q.extent ≡ true) × (f : Entry) × IsAt b q.index f
-    × Meet shape f.shape
-
--- the same of two outlines
-abbrev pub CellHit : Extent → List Entry → List Entry → Outline × Outline → Type 0
-CellHit rect a b (p, q) = (e : Entry) × IsAt a p.index e × RowHit rect p e.shape b q
+-- the pair is one of the rectangle, and the shapes of the two outlines' entries meet
+abbrev pub CellHit : Extent → Side → Side → Outline × Outline → Type 0
+CellHit rect a b (p, q) = (is_here_of rect p.extent q.extent ≡ true) × (e : Entry) × (f : Entry)
+    × IsAt a.entries p.index e × IsAt b.entries q.index f × Meet e.shape f.shape
 
 -- the outline has a common point with the window
 abbrev pub IsInWindow : Extent → Outline → Type 0
@@ -67,9 +62,6 @@ IsInWindow window q = touch_of q.extent window ≡ true
 
 abbrev pub itself : Outline → Outline
 itself q = q
-
-abbrev pub row_pair : Outline → Outline → Pair
-row_pair p q = record { first = p.at; second = q.at }
 
 abbrev pub at_outlines : Outline × Outline → Pair
 at_outlines (p, q) = record { first = p.at; second = q.at }

@@ -16,7 +16,7 @@ pub(crate) fn touch(x: Extent, y: Extent) -> bool
 }
 
 /// Whether the first number is at most the second, and the third at most the fourth.
-pub(crate) fn are_ordered(a: i64, b: i64, c: i64, d: i64) -> bool
+fn are_ordered(a: i64, b: i64, c: i64, d: i64) -> bool
     ensures { result ≡ (int_le a b && int_le c d) }
 {
     a <= b && c <= d

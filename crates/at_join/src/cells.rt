@@ -1,11 +1,10 @@
 //! The 64 cells of the plane of a join.
 
 ghost use Rattle.std.specs.Prelude.{◌≡◌, ℤ, pos, ◌+◌, ◌*◌, ◌/◌, ◌<◌, ◌≤◌, ◌+ℤ◌, ◌-ℤ◌, nat_abs};
-ghost use Rattle.at_geom.specs.Shapes.{is_within};
 ghost use Rattle.at_join.specs.Cells.{edge_of, rect_of};
 ghost use Rattle.at_join.specs.Boxes.{is_here_of, IsSpan};
 
-use crate::boxes::{are_ordered, touch};
+use crate::boxes::touch;
 use at_geom::{Extent, Pos};
 use at_query::upper_corner;
 
@@ -82,17 +81,8 @@ pub(crate) fn is_here(rect: Extent, x: Extent, y: Extent) -> bool
     ensures { result ≡ is_here_of rect x y }
 {
     if touch(x, y) {
-        is_in(rect, upper_corner(x.low, y.low))
+        rect.contains(upper_corner(x.low, y.low))
     } else {
         false
     }
-}
-
-/// Whether the position is in the extent.
-fn is_in(x: Extent, p: Pos) -> bool
-    ensures { result ≡ is_within x p }
-{
-    let along_x = are_ordered(x.low.x, p.x, p.x, x.high.x);
-    let along_y = are_ordered(x.low.y, p.y, p.y, x.high.y);
-    along_x && along_y
 }

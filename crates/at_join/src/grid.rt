@@ -8,7 +8,7 @@ ghost use Rattle.at_join.specs.Sides.{spread_onto};
 ghost use Rattle.at_join.specs.Cells.{belongs, InCells, ListsEach};
 
 use crate::cells::cell_rect;
-use crate::finding::push_cell;
+use crate::finding::Search;
 use crate::sides::Side;
 use crate::steps::Steps;
 use at_geom::{Extent, Pos};
@@ -75,14 +75,12 @@ impl Grid {
         let Some(joint) = self.joint else {
             return Ok(Pairs::from_vec(pairs));
         };
-        push_cell(
-            alloc,
-            &self.a,
-            &self.b,
-            cell_rect(joint, cell),
-            steps,
-            &mut pairs,
-        )?;
+        let search = Search {
+            first: &self.a,
+            second: &self.b,
+            rect: cell_rect(joint, cell),
+        };
+        search.push_cell(alloc, steps, &mut pairs)?;
         Ok(Pairs::from_vec(pairs))
     }
 }

@@ -2,7 +2,8 @@
 
 ghost use Rattle.std.specs.Prelude.{IfOk, OnOk, [], ◌∷◌};
 ghost use Rattle.at_geom.specs.Shapes.{IsShapeInRange};
-ghost use Rattle.at_join.specs.Meetings.{AreInRange, IsAllPairs, Finds, MeetsWith, pair_with};
+ghost use Rattle.at_join.specs.Meetings.{AreInRange, IsAllPairs, Finds, Meeting, at_entries};
+ghost use Rattle.at_query.specs.Results.{pairs_of};
 
 use at_geom::shapes_meet;
 use at_query::{Entries, Entry, Pair, Pairs};
@@ -26,8 +27,7 @@ pub fn pairs_plain(alloc: Global, a: &Entries, b: &Entries) -> Result<Pairs, Mem
 fn push_meeting(pairs: &mut Vec<Pair>, entry: &Entry, others: &[Entry]) -> Result<(), Memory>
     requires entry { IsShapeInRange entry.now.shape }
     requires others { AreInRange others.now }
-    ensures { OnOk result (Finds (MeetsWith entry.now) (pair_with entry.now) others.now pairs.old.items
-        pairs.new.items) }
+    ensures { OnOk result (Finds Meeting at_entries (pairs_of (entry.now ∷ []) others.now) pairs.old.items pairs.new.items) }
 {
     for other in others {
         push_one(pairs, entry, other)?;
@@ -39,8 +39,7 @@ fn push_meeting(pairs: &mut Vec<Pair>, entry: &Entry, others: &[Entry]) -> Resul
 fn push_one(pairs: &mut Vec<Pair>, entry: &Entry, other: &Entry) -> Result<(), Memory>
     requires entry { IsShapeInRange entry.now.shape }
     requires other { IsShapeInRange other.now.shape }
-    ensures { OnOk result (Finds (MeetsWith entry.now) (pair_with entry.now) (other.now ∷ []) pairs.old.items
-        pairs.new.items) }
+    ensures { OnOk result (Finds Meeting at_entries ((entry.now, other.now) ∷ []) pairs.old.items pairs.new.items) }
 {
     if !shapes_meet(&entry.shape, &other.shape) {
         return Ok(());

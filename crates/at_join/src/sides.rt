@@ -6,13 +6,13 @@ ghost use Rattle.at_geom.specs.Shapes.{encloses};
 ghost use Rattle.at_query.specs.Parts.{IsProperEntry};
 ghost use Rattle.at_join.specs.declared.outlines.Outline.{Outline};
 ghost use Rattle.at_join.specs.Boxes.{touch_of};
-ghost use Rattle.at_join.specs.Sides.{IsSide};
+ghost use Rattle.at_join.specs.Sides.{IsSide, IsAt, IsOutlineOf};
 
 use crate::covers::{covers_of, is_clear};
 use crate::keys::key_of;
 use crate::outlines::{Outline, outlines_of};
 use at_geom::{Extent, Pos};
-use at_query::Entries;
+use at_query::{Entries, Entry};
 use at_text::Memory;
 use std::alloc::Global;
 
@@ -69,6 +69,14 @@ impl Side {
             return at + 16;
         }
         at
+    }
+
+    /// The entry of an outline.
+    pub(crate) fn entry(&self, outline: Outline) -> &Entry
+        requires { IsOutlineOf self.now.entries outline }
+        ensures { IsAt self.now.entries outline.index result.now }
+    {
+        &self.entries.as_slice()[outline.index as usize]
     }
 
     /// Where the stretch of 16 outlines ends in which this one stands, or that of this one alone.

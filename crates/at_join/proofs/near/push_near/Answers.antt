@@ -12,8 +12,8 @@ use Rattle.at_join.proofs.near.push_near.Goals as goal
 pub loop-at-preserved-then-next-at : goal.loop-at-preserved-then-next-at
 loop-at-preserved-then-next-at c =
     let outlines = c.args.side.now.outlines.items in
-    finds_past (IsInWindow c.args.window) itself outlines c.loop-at.at c.ahead-next.result no_outline c.args.near.now.items c.loop-at.near.items c.ahead-next.ensures.ahead
-    (λ k from to lt h. clash (touch_of (get_or outlines k no_outline).extent c.args.window) h (c.ahead-next.ensures.clear k no_outline from to lt)) c.loop-at.invariant
+    finds_past (IsInWindow c.args.window) itself outlines c.loop-at.at c.ahead-next.result c.args.near.now.items c.loop-at.near.items c.ahead-next.ensures.ahead
+    (λ k d from to lt h. clash (touch_of (get_or outlines k d).extent c.args.window) h (c.ahead-next.ensures.clear k d from to lt)) c.loop-at.invariant
 
 pub loop-at-preserved : goal.loop-at-preserved
 loop-at-preserved c =

@@ -1,8 +1,8 @@
 use Rattle.std.proofs.Common.{◌∷◌, [], sym, subst}
 use Rattle.at_geom.specs.Shapes.{IsShapeInRange}
 use Rattle.at_query.specs.declared.answer.parts.Entry.{Entry}
-use Rattle.at_join.specs.Meetings.{Finds, MeetsWith, pair_with}
-use Rattle.at_join.proofs.FoundLists.{finds_more}
+use Rattle.at_join.specs.Meetings.{Finds, Meeting, at_entries}
+use Rattle.at_join.proofs.FoundLists.{finds_pair}
 use Rattle.at_join.proofs.plain.push_meeting.Goals as goal
 
 pub push_one-requires-clause-other : goal.push_one-requires-clause-other
@@ -11,9 +11,8 @@ push_one-requires-clause-other c =
 
 pub loop-other-preserved : goal.loop-other-preserved
 loop-other-preserved c =
-    let P = MeetsWith c.args.entry.now in
-    let f = pair_with c.args.entry.now in
+    let entry = c.args.entry.now in
     let mid = c.loop-other.pairs.items in
     let new = c.push_one.new.pairs.items in
-    finds_more P f c.args.others.now c.loop-other.other-index c.other-item.result c.args.pairs.now.items mid new c.loop-other-test.true c.loop-other.invariant
-    (subst (λ (e : Entry). Finds P f (e ∷ []) mid new) c.other-item.is c.in_ok-push_one.ensures)
+    finds_pair Meeting at_entries entry c.args.others.now c.loop-other.other-index c.other-item.result c.args.pairs.now.items mid new c.loop-other-test.true c.loop-other.invariant
+    (subst (λ (e : Entry). Finds Meeting at_entries ((entry, e) ∷ []) mid new) c.other-item.is c.in_ok-push_one.ensures)

@@ -1,10 +1,9 @@
-use Rattle.std.proofs.Common.{◌∙◌, ℕ, ◌≤◌, All, ap, sym, subst, arith}
+use Rattle.std.proofs.Common.{◌∙◌, ap, arith}
 use mathlib.Core.Option.{none}
 use Rattle.atomic_table.specs.Table.{step}
 use Rattle.at_crew.specs.Seats.{leaf_of}
-use Rattle.at_crew.specs.Views.{claimed}
-use Rattle.at_crew.proofs.Claims.{claims, some-inj}
-use Rattle.at_crew.proofs.Rising.{claim_last, claim_below, claim_past, all_less, all_at_most, rises_with}
+use Rattle.at_crew.proofs.Claims.{claims}
+use Rattle.at_crew.proofs.Rising.{claim_more, claim_rises}
 use Rattle.at_crew.proofs.crew.Crew.claim.Goals as goal
 
 pub fetch_add-found-requires : goal.fetch_add-found-requires
@@ -15,19 +14,13 @@ fetch_add-found-requires g c = let t = c.args.self.now.table.shared in let p = c
 )
 
 pub invariant_of-pass-clause-rising : goal.invariant_of-pass-clause-rising
-invariant_of-pass-clause-rising g c = let p = c.args.pass.now in let less = all_less p.last (claimed p.seat.me.0) c.fetch_add-found.result p.rising p.unclaimed (λ x e. claim_last g.J.Job.count (step c.args.self.now.table.shared.table_id.slots 0 1 0 none) p.seat.me.1 c.fetch_add-found.result c.fetch_add-found.new.seat.me p.seat.me.0 c.fetch_add-found.ensures.2 x (p.sits.2 ∙ e)) in let size = c.args.self.now.sized.0 in
-    λ n e. subst (λ (m : ℕ). All (λ x. x ≤ m) (claimed c.fetch_add-found.new.seat.me.0)) (some-inj e)
-    (rises_with c.fetch_add-found.result (claimed p.seat.me.0) (claimed c.fetch_add-found.new.seat.me.0) less
-    (claim_below g.J.Job.count (step c.args.self.now.table.shared.table_id.slots 0 1 0 none) p.seat.me.1 c.fetch_add-found.result c.fetch_add-found.new.seat.me p.seat.me.0 c.fetch_add-found.ensures.2 (let lt = c.if-found-self.true in omega (arith, lt, size))))
+invariant_of-pass-clause-rising g c = let p = c.args.pass.now in claim_rises g.J.Job.count (step c.args.self.now.table.shared.table_id.slots 0 1 0 none) p.seat.me.1 c.fetch_add-found.result c.fetch_add-found.new.seat.me p.seat.me.0 c.fetch_add-found.ensures.2 p.last p.sits.2 p.rising p.unclaimed
 
 pub invariant_of-pass-else-found-self-clause-rising : goal.invariant_of-pass-else-found-self-clause-rising
-invariant_of-pass-else-found-self-clause-rising g c = let p = c.args.pass.now in let less = all_less p.last (claimed p.seat.me.0) c.fetch_add-found.result p.rising p.unclaimed (λ x e. claim_last g.J.Job.count (step c.args.self.now.table.shared.table_id.slots 0 1 0 none) p.seat.me.1 c.fetch_add-found.result c.fetch_add-found.new.seat.me p.seat.me.0 c.fetch_add-found.ensures.2 x (p.sits.2 ∙ e)) in let size = c.args.self.now.sized.0 in
-    λ n e. subst (λ (m : ℕ). All (λ x. x ≤ m) (claimed c.fetch_add-found.new.seat.me.0)) (some-inj e)
-    (subst (All (λ x. x ≤ c.fetch_add-found.result)) (sym (claim_past g.J.Job.count (step c.args.self.now.table.shared.table_id.slots 0 1 0 none) p.seat.me.1 c.fetch_add-found.result c.fetch_add-found.new.seat.me p.seat.me.0 c.fetch_add-found.ensures.2 (let le = c.if-found-self.false in omega (arith, le, size))))
-    (all_at_most c.fetch_add-found.result (claimed p.seat.me.0) less))
+invariant_of-pass-else-found-self-clause-rising g c = let p = c.args.pass.now in claim_rises g.J.Job.count (step c.args.self.now.table.shared.table_id.slots 0 1 0 none) p.seat.me.1 c.fetch_add-found.result c.fetch_add-found.new.seat.me p.seat.me.0 c.fetch_add-found.ensures.2 p.last p.sits.2 p.rising p.unclaimed
 
 pub returns-then-found-self-clause-rises : goal.returns-then-found-self-clause-rises
-returns-then-found-self-clause-rises g c = let p = c.args.pass.now in all_less p.last (claimed p.seat.me.0) c.fetch_add-found.result p.rising p.unclaimed (λ x e. claim_last g.J.Job.count (step c.args.self.now.table.shared.table_id.slots 0 1 0 none) p.seat.me.1 c.fetch_add-found.result c.fetch_add-found.new.seat.me p.seat.me.0 c.fetch_add-found.ensures.2 x (p.sits.2 ∙ e))
+returns-then-found-self-clause-rises g c = let p = c.args.pass.now in claim_more g.J.Job.count (step c.args.self.now.table.shared.table_id.slots 0 1 0 none) p.seat.me.1 c.fetch_add-found.result c.fetch_add-found.new.seat.me p.seat.me.0 c.fetch_add-found.ensures.2 p.last p.sits.2 p.rising p.unclaimed
 
 pub returns-else-found-self-clause-rises : goal.returns-else-found-self-clause-rises
-returns-else-found-self-clause-rises g c = let p = c.args.pass.now in all_less p.last (claimed p.seat.me.0) c.fetch_add-found.result p.rising p.unclaimed (λ x e. claim_last g.J.Job.count (step c.args.self.now.table.shared.table_id.slots 0 1 0 none) p.seat.me.1 c.fetch_add-found.result c.fetch_add-found.new.seat.me p.seat.me.0 c.fetch_add-found.ensures.2 x (p.sits.2 ∙ e))
+returns-else-found-self-clause-rises g c = let p = c.args.pass.now in claim_more g.J.Job.count (step c.args.self.now.table.shared.table_id.slots 0 1 0 none) p.seat.me.1 c.fetch_add-found.result c.fetch_add-found.new.seat.me p.seat.me.0 c.fetch_add-found.ensures.2 p.last p.sits.2 p.rising p.unclaimed

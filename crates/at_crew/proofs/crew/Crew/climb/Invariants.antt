@@ -8,7 +8,7 @@ use Rattle.at_crew.proofs.crew.Crew.climb.Given as goal
 abbrev pub invariant-loop-node : goal.invariant-loop-node
 invariant-loop-node g l = record {
   of : l.seat.table_id ≡ l.fn.self.table.shared.table_id;
-  bears : Bears g.J.Job.stands (g.J.Job.facts l.fn.job) l.fn.self.blocks l.seat.me l.node l.height;
+  bears : Bears g.J.Job.stands (g.J.Job.facts l.fn.merger.job.now) l.fn.self.blocks l.seat.me l.node l.height;
   node : l.node ≡ above l.leaf l.height;
   merged : rests l.seat.me.0 ≡ adds (ancestors l.leaf l.height) (rests l.fn.seat.me.0);
 }

@@ -1,6 +1,6 @@
 use Rattle.std.proofs.Common.{rules, Bool, not, IsTrue, eq-eqb, subst, arith}
 use Rattle.at_crew.proofs.Tree.{node_bound}
-use Rattle.at_crew.proofs.Deposits.{deposits_sized}
+use Rattle.at_crew.proofs.Deposits.{deposits}
 use Rattle.at_crew.proofs.Told.{second}
 use Rattle.at_crew.proofs.crew.Crew.deposit.Goals as goal
 
@@ -8,7 +8,7 @@ pub fetch_or-found-requires : goal.fetch_or-found-requires
 fetch_or-found-requires g c = let t = c.args.self.now.table.shared in let z = c.args.self.now.sized in let b = c.requires.bears in let n = node_bound c.args.self.now.blocks b.3.0 c.args.height c.args.node b.3.1 in (
   c.requires.of,
   omega (arith, z, n),
-  deposits_sized g.J.Job.stands g.J.Job.count (g.J.Job.facts t.key) t.table_id.slots c.args.self.now.blocks c.args.seat.now.id c.args.seat.now.me.0 c.args.seat.now.me.1 c.args.node c.args.height b.2.0 z.0 b.1 b.2.1 c.requires.below b.2.2,
+  deposits g.J.Job.stands g.J.Job.count (g.J.Job.facts t.key) t.table_id.slots c.args.self.now.blocks c.args.seat.now.id c.args.seat.now.me.0 c.args.seat.now.me.1 c.args.node c.args.height b.2.0 z.0 b.1 b.2.1 c.requires.below b.2.2,
 )
 
 pub returns-clause-second : goal.returns-clause-second

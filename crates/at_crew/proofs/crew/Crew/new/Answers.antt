@@ -4,7 +4,7 @@ use Rattle.atomic_table.specs.Table.{opening}
 use Rattle.at_crew.specs.declared.view.View.TheVariants.{Leads}
 use Rattle.at_crew.specs.Views.{leader}
 use Rattle.at_crew.specs.Rule.{CrewRule}
-use Rattle.at_crew.proofs.Tree.{pow_pos}
+use Rattle.std.proofs.lemmas.Nat.{pow_pos}
 use Rattle.at_crew.proofs.Powers.{power_of}
 use Rattle.at_crew.proofs.Opens.{opens}
 use Rattle.at_crew.proofs.crew.Crew.new.Goals as goal
