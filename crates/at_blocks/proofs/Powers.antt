@@ -4,11 +4,11 @@ use Rattle.std.proofs.Common.{◌≡◌, ℕ, zero, suc, ◌/◌, ◌%◌, ◌^�
 use Rattle.std.specs.Int.{is_power_of_two, IsPowerOfTwo}
 use Rattle.std.specs.Int.Count.{ones_step}
 use Rattle.std.proofs.Math.Nat.{pow-le-pow_right}
-use Rattle.std.proofs.lemmas.Nat.{ones_le_self}
+use Rattle.std.proofs.lemmas.Nat.{ones_le_self, pow_pos}
 use Rattle.std.proofs.lemmas.Bool.{cases_lt}
 use Rattle.at_crew.specs.Nodes.{IsBlockCount}
 use Rattle.at_crew.proofs.Powers.{power_of, block_count}
-use Rattle.at_crew.proofs.Tree.{two_suc, pow_pos}
+use Rattle.at_crew.proofs.Tree.{two_suc}
 use Rattle.at_blocks.specs.Places.{IsLeastCount}
 
 pow_le : (i j : ℕ) → i ≤ j → 2 ^ i ≤ 2 ^ j
@@ -19,7 +19,7 @@ less_power : (i j : ℕ) → 2 ^ i < 2 ^ j → i < j
 less_power i j h = elim (cases_lt i j) [ inl lt ↦ lt | inr le ↦ absurd (let p = pow_le j i le in omega (arith, p, h)) ]
 
 pub some_blocks : (count : ℕ) → IsBlockCount count → (0 < count) × (count ≤ 4096)
-some_blocks count is = let power = power_of count is in (omega (arith, pow_pos power.0, power.1), power.2)
+some_blocks count is = let power = power_of count is in (let p = pow_pos power.0 in omega (arith, p, power.1), power.2)
 
 ones_power : (k : ℕ) → count_ones (2 ^ k) ≡ 1
 ones_power zero = let s = ones_step 1 in let z = ones_le_self 0 in omega (arith, s, z)

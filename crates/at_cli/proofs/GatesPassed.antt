@@ -3,8 +3,8 @@
 use Rattle.std.proofs.Common.{◌≡◌, ℕ, ◌+◌, ◌-◌, List, length, Option, Some, None, Result, Ok, Err, IfOk, sym, ◌∙◌, subst, arith}
 use Rattle.std.proofs.lemmas.Option.{none-some}
 use Rattle.at_query.specs.declared.answer.answers.Answer.{Answer}
-use Rattle.at_run.specs.declared.faults.RunFault.{RunFault}
-use Rattle.at_run.specs.declared.faults.RunFault.TheVariants.{Memory}
+use Rattle.at_text.specs.declared.refusals.Refusal.{Refusal}
+use Rattle.at_text.specs.declared.refusals.Refusal.TheVariants.{Memory}
 use Rattle.at_run.specs.declared.faults.JoinFault.{JoinFault}
 use Rattle.at_blocks.specs.Places.{IsLeastCount}
 use Rattle.at_blocks.specs.Blocks.{NoneGivenUp, SomeGivenUp}
@@ -15,7 +15,7 @@ use Rattle.at_cli.specs.Gates.{PassesCells, PassesGate}
 abbrev IsCounted : ℕ → List ℕ → Type 0
 IsCounted blocks places = (count : ℕ) × IsLeastCount blocks count × (length places ≡ count + 1)
 
-pub gate_passed : (line : Line) (given_up places : List ℕ) (result : Result Answer RunFault) → IsCounted line.blocks places
+pub gate_passed : (line : Line) (given_up places : List ℕ) (result : Result Answer Refusal) → IsCounted line.blocks places
     → (SomeGivenUp given_up 0 (length places - 1) → result ≡ Err Memory) → line.second ≡ None → IfOk result (λ _. PassesGate given_up line)
 gate_passed line given_up places (Ok answer) (count, least, counted) f none =
     ((λ _. (count, least, λ n low high h. absurd (let e = f (n, low, omega (arith, counted, high), h) in cc))), subst (PassesCells given_up) (sym none) tt)

@@ -4,9 +4,10 @@ use Rattle.std.proofs.Common.{◌≡◌, ℕ, List, Some, Result, Ok, Err, IfOk,
 use Rattle.std.specs.Prelude.{IsOk}
 use Rattle.at_query.specs.declared.query.queries.Query.{Query}
 use Rattle.at_query.specs.declared.answer.answers.Answer.{Answer}
-use Rattle.at_run.specs.Answers.{IfFound, IsFileAnswer, IsJoinAnswer, IsJoinFault}
-use Rattle.at_run.specs.declared.faults.RunFault.{RunFault}
-use Rattle.at_run.specs.declared.faults.RunFault.TheVariants as faults
+use Rattle.at_text.specs.Refusals.{IfFound}
+use Rattle.at_run.specs.Answers.{IsFileAnswer, IsJoinAnswer, IsJoinFault}
+use Rattle.at_text.specs.declared.refusals.Refusal.{Refusal}
+use Rattle.at_text.specs.declared.refusals.Refusal.TheVariants as faults
 use Rattle.at_run.specs.declared.faults.JoinFault.{JoinFault}
 use Rattle.at_run.specs.declared.faults.JoinFault.TheVariants as joins
 use Rattle.at_cli.specs.declared.words.line.Line.{Line}
@@ -51,7 +52,7 @@ passes_said words given_up (Two files) says passes = (files.line, says, passes)
 
 -- ---- the end that is made of an answer
 
-pub ends_bytes : (line : Line) (query : Query) (bytes : List ℕ) (answer : Result Answer RunFault) (e : Ending)
+pub ends_bytes : (line : Line) (query : Query) (bytes : List ℕ) (answer : Result Answer Refusal) (e : Ending)
     → MatchResult answer (IsFileAnswer (form_of line line.first) line.digits line.how query bytes) (λ end. IfFound end (λ fault. HasFileFaultIn (form_of line line.first) line.digits line.how bytes (Some fault)))
     → IsEndOf line answer e → EndsBytes line query bytes e
 ends_bytes line query bytes (Ok answer) e h (inl five) = inl five

@@ -34,6 +34,10 @@ ends_asked line query files e is (inr (inl five)) = inr (inl five)
 ends_asked line query None e is (inr (inr h)) = inr (inr tt)
 ends_asked line query (Some told) e is (inr (inr h)) = inr (inr (inr (query, is, h)))
 
+-- a query that is of the line's text, as it was lent, is of the line's query
+pub query_of_line : (line : Line) (query : Query) {text : List ℕ} → text ≡ line.query → IsQueryOf line.digits line.how text query → IsQueryOf line.digits line.how line.query query
+query_of_line line query same is = subst (λ text. IsQueryOf line.digits line.how text query) same is
+
 -- a query with a fault ends the run
 pub ends_query : (line : Line) (files : Option Files) (text : List ℕ) (at : ℕ) → text ≡ line.query → HasQueryFault line.digits line.how text at → Ends (HasLineOutcome line) files (QueryFault at)
 ends_query line files text at same h =

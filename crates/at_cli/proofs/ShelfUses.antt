@@ -106,7 +106,7 @@ both_sized None ns ms h k = tt
 both_sized (Some told) [] ms h k = k
 both_sized (Some told) (n ∷ ns) ms (one, h) k = (one, both_sized (Some told) ns ms h k)
 
-pub failed_name : (name : List ℕ) (more : List (List ℕ)) (m n : Meanings) → is_made name ≡ false → Rose m.faults n.faults → n.broken ≡ n.begins
+failed_name : (name : List ℕ) (more : List (List ℕ)) (m n : Meanings) → is_made name ≡ false → Rose m.faults n.faults → n.broken ≡ n.begins
     → WasAsked (asked_name name) m n → FailedOn (asked_name name ++ more) (unread_line name) m n
 failed_name name more m n e rose broken asked = record {
   earlier = [];
@@ -119,6 +119,12 @@ failed_name name more m n e rose broken asked = record {
   was_asked = (let P : List (List ℕ) → Type 0 = λ l. WasAsked l m n in subst P (asked_is name e) asked);
   earlier_sized = none_before m.files;
 }
+
+-- the name was lent as this text
+pub failed_as : (text name : List ℕ) (more : List (List ℕ)) (m n : Meanings) → text ≡ name → (is_made text ≡ false) × Rose m.faults n.faults × (n.broken ≡ n.begins)
+    → WasAsked (asked_name text) m n → FailedOn (asked_name name ++ more) (unread_line name) m n
+failed_as text name more m n same (unmade, rose, broken) asked =
+    let F : List ℕ → Type 0 = λ name. FailedOn (asked_name name ++ more) (unread_line name) m n in subst F same (failed_name text more m n unmade rose broken asked)
 
 pub failed_behind : (ns ms : List (List ℕ)) (line : List ℕ) (m mid after : Meanings) → mid.files ≡ m.files → WasAsked ns m mid → m.faults ≤ mid.faults
     → IfSome m.files (λ told. HaveSized told ns) → FailedOn ms line mid after → FailedOn (ns ++ ms) line m after

@@ -4,8 +4,8 @@ use Rattle.at_query.specs.declared.query.queries.Verb.TheVariants.{Join}
 use Rattle.at_query.specs.declared.answer.answers.Answer.{Answer}
 use Rattle.at_query.specs.Printing.{printed}
 use Rattle.at_query.specs.Ranges.{IsQueryInRange}
-use Rattle.at_run.specs.declared.faults.RunFault.{RunFault}
-use Rattle.at_run.specs.declared.faults.RunFault.TheVariants as faults
+use Rattle.at_text.specs.declared.refusals.Refusal.{Refusal}
+use Rattle.at_text.specs.declared.refusals.Refusal.TheVariants as faults
 use Rattle.at_run.specs.declared.faults.JoinFault.{JoinFault}
 use Rattle.at_run.specs.declared.faults.JoinFault.TheVariants as joins
 use Rattle.at_cli.specs.declared.words.line.Line.{Line}
@@ -92,7 +92,7 @@ PassesLoaded given_up (Two files) = PassesGate given_up files.line
 abbrev pub TellsAnswer : Line → Answer → Ending → Type 0
 TellsAnswer line answer e = (status_of e ≡ 5) ⊎ (outcome_by e ≡ answered (printed line.digits answer))
 
-abbrev pub IsEndOf : Line → Result Answer RunFault → Ending → Type 0
+abbrev pub IsEndOf : Line → Result Answer Refusal → Ending → Type 0
 IsEndOf line (Ok answer) e = TellsAnswer line answer e
 IsEndOf line (Err (faults.Found fault)) e = outcome_by e ≡ stopped 1 (fault_line line.first fault)
 IsEndOf line (Err faults.Memory) e = status_of e ≡ 5

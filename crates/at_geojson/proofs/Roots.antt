@@ -14,8 +14,8 @@ use Rattle.at_query.proofs.QueryFacts.{same_part}
 use Rattle.at_geojson.specs.declared.atoms.atom.GeoAtom.{GeoAtom}
 use Rattle.at_geojson.specs.declared.atoms.atom.Role.{Role}
 use Rattle.at_geojson.specs.declared.atoms.atom.Role.TheVariants as roles
-use Rattle.at_geojson.specs.declared.root.RootEnd.{RootEnd}
-use Rattle.at_geojson.specs.declared.root.RootEnd.TheVariants.{Found, Memory}
+use Rattle.at_text.specs.declared.refusals.Refusal.{Refusal}
+use Rattle.at_text.specs.declared.refusals.Refusal.TheVariants.{Found, Memory}
 use Rattle.at_geojson.specs.Roles.{Features, root_reading}
 use Rattle.at_geojson.specs.Atoms.{twin_of, at_of, role_of, HasPart, IsRoot, IsFold}
 use Rattle.at_geojson.specs.Ends.{EndsGeometry, EndsRole, EndsBy, EndsAtom}
@@ -32,14 +32,14 @@ module _ (asked : Asked) (t : Tree) where
     same_faults : faults_of asked.digits asked.how t ≡ root.faults
     same_faults = ap (λ fs. fs ++ root.faults) none
 
-    faulty : (fault : Fault) (end : Result Part RootEnd) → first_of root.faults ≡ Some fault → end ≡ Err (Found fault) → IsAnswer asked t end
+    faulty : (fault : Fault) (end : Result Part Refusal) → first_of root.faults ≡ Some fault → end ≡ Err (Found fault) → IsAnswer asked t end
     faulty fault end e q = subst (IsAnswer asked t) (sym q) (ap first_of same_faults ∙ e)
 
-    found_answer : (p : Result Part Fault) (end : Result Part RootEnd) → HasPart asked.query p root → end ≡ found_end p → IsAnswer asked t end
+    found_answer : (p : Result Part Fault) (end : Result Part Refusal) → HasPart asked.query p root → end ≡ found_end p → IsAnswer asked t end
     found_answer (Ok part) end h q = subst (IsAnswer asked t) (sym q) (same_faults ∙ h.0, h.1)
     found_answer (Err fault) end h q = faulty fault end h q
 
-    lone_answer : (at : ℕ) (shape : Shape) (end : Result Part RootEnd) → IsRoot asked at (roles.Geometry (Ok shape)) t → EndsGeometry asked.query at (Ok shape) end → IsAnswer asked t end
+    lone_answer : (at : ℕ) (shape : Shape) (end : Result Part Refusal) → IsRoot asked at (roles.Geometry (Ok shape)) t → EndsGeometry asked.query at (Ok shape) end → IsAnswer asked t end
     lone_answer at shape (Ok part) (feature, e, i, s, n) h = (
       same_faults ∙ ap (λ (z : Features). z.faults) e,
       subst (λ (z : Features). IsPart asked.query z.features part) (sym e)
@@ -48,14 +48,14 @@ module _ (asked : Asked) (t : Tree) where
     lone_answer at shape (Err Memory) r h = tt
     lone_answer at shape (Err (Found fault)) r h = absurd h
 
-    role_answer : (at : ℕ) (role : Role) (end : Result Part RootEnd) → IsRoot asked at role t → EndsRole asked.query at role end → IsAnswer asked t end
+    role_answer : (at : ℕ) (role : Role) (end : Result Part Refusal) → IsRoot asked at role t → EndsRole asked.query at role end → IsAnswer asked t end
     role_answer at roles.Nothing end r h = faulty (fault_at Form at) end (ap first_of r) h
     role_answer at (roles.Geometry (Ok shape)) end r h = lone_answer at shape end r h
     role_answer at (roles.Geometry (Err fault)) end r h = faulty fault end r h
     role_answer at (roles.Feature p) end r h = found_answer p end r h
     role_answer at (roles.Collection p) end r h = found_answer p end r h
 
-  pub is_answer : (a : GeoAtom) (end : Result Part RootEnd) → EndsAtom asked.query a end → IsFold asked a t → IsAnswer asked t end
+  pub is_answer : (a : GeoAtom) (end : Result Part Refusal) → EndsAtom asked.query a end → IsFold asked a t → IsAnswer asked t end
   is_answer a end h fold = go (twin_of a) refl h where
     go : (o : Option Fault) → twin_of a ≡ o → EndsBy asked.query o (at_of a) (role_of a) end → IsAnswer asked t end
     go (Some fault) e q = subst (IsAnswer asked t) (sym q) (twins_first asked.digits asked.how t fault (sym fold.twins ∙ e))

@@ -1,21 +1,17 @@
 -- Faults of equal names are of the third tier and faults of roles of the fourth: of both, the first is the first of equal names where there is one.
 -- For `root_part`.
-use Rattle.std.proofs.Common.{◌≡◌, ℕ, Bool, true, false, not, ◌||◌, nat_lt, if◌then◌else◌, codes, List, [], ◌∷◌, ◌++◌, length, map, flat_map, Option, Some, None, Result, Ok, Err, option_to_list, IfSome, ℤ, refl, ◌∙◌, ap, subst}
+use Rattle.std.proofs.Common.{◌≡◌, ℕ, Bool, true, false, ◌||◌, nat_lt, if◌then◌else◌, codes, List, [], ◌∷◌, ◌++◌, map, Option, Some, None, IfSome, refl, ◌∙◌, ap, subst}
 use Rattle.std.specs.List.{AllByRecursion}
 use Rattle.at_text.specs.Faults.{comes_first, first_fault, first_of, tier_of, fault_at}
 use Rattle.at_text.specs.declared.faults.Fault.{Fault}
-use Rattle.at_text.specs.declared.faults.FaultKind.TheVariants.{Twin, Short, Ring}
+use Rattle.at_text.specs.declared.faults.FaultKind.TheVariants.{Twin}
 use Rattle.at_fixed.specs.declared.rounding.Coords.{Coords}
-use Rattle.at_fixed.specs.declared.rounding.FixedFault.{FixedFault}
-use Rattle.at_fixed.specs.declared.rounding.FixedFault.TheVariants.{Scale, Range}
-use Rattle.at_fixed.specs.Fixed.{fixed_of}
-use Rattle.at_geom.specs.Shapes.{line_fault, ring_fault}
-use Rattle.at_wkt.specs.Positions.{Position, Positions, faults_in, number_fault, position_faults, items_faults, faults_of_line, faults_of_ring, is_closed}
-use Rattle.at_wkt.specs.Geometry.{Geometry, point, line_string, polygon, multi_point, multi_line_string, multi_polygon, collection, Geometries, no_geometries, geometry_and}
-use Rattle.at_wkt.specs.Meaning.{present, faults_of, faults_of_all, faults_of_area, shape_of}
+use Rattle.at_wkt.specs.Geometry.{Geometry}
+use Rattle.at_wkt.specs.Meaning.{faults_of, shape_of}
 use Rattle.at_wkt.proofs.FaultOrder.{first_of-append}
 use Rattle.at_lex.specs.Strings.{units_of}
 use Rattle.at_lex.specs.Runs.{the_null, the_true, the_false}
+use Rattle.at_query.proofs.QueryParts.{fourth_of}
 use Rattle.at_nest.specs.Tree.{Tree, literal, number, text, array, object, Trees, no_trees, tree_and, Members, no_members, member_and, offset_of}
 use Rattle.at_nest.specs.Twins.{is_among, twins_of, twins_of_items, twins_of_members}
 use Rattle.at_scan.specs.declared.kinds.Kind.{Kind}
@@ -54,62 +50,15 @@ mutual
       of_append 3 (if is_among earlier (units_of name) then fault_at Twin i ∷ [] else []) (twins_of t ++ twins_of_members (units_of name ∷ earlier) ms) (own_name (is_among earlier (units_of name)) i)
       (of_append 3 (twins_of t) (twins_of_members (units_of name ∷ earlier) ms) (twins_third t) (members_third (units_of name ∷ earlier) ms))
 
--- ---- coordinates
-
-each_fourth : {X : Type 0} (f : X → List Fault) → ((x : X) → AreOf 4 (f x)) → (xs : List X) → AreOf 4 (flat_map f xs)
-each_fourth f h [] = tt
-each_fourth f h (x ∷ xs) = of_append 4 (f x) (flat_map f xs) (h x) (each_fourth f h xs)
-
-value_fourth : (r : Result ℤ FixedFault) (at : ℕ) → AreOf 4 (faults_in r at)
-value_fourth (Ok z) at = tt
-value_fourth (Err Scale) at = (refl, tt)
-value_fourth (Err Range) at = (refl, tt)
-
-short_fourth : (b : Bool) (at : ℕ) → AreOf 4 (option_to_list (if b then Some (fault_at Short at) else None))
-short_fourth true at = (refl, tt)
-short_fourth false at = tt
-
-open_fourth : (b : Bool) (at : ℕ) → AreOf 4 (option_to_list (if b then Some (fault_at Ring at) else None))
-open_fourth true at = (refl, tt)
-open_fourth false at = tt
+-- ---- geometries
 
 module _ (digits : ℕ) (how : Coords) where
-  position_fourth : (p : Position) → AreOf 4 (position_faults digits how p)
-  position_fourth p = of_append 4 (number_fault digits how p.x p.x_at) (number_fault digits how p.y p.y_at) (value_fourth (fixed_of p.x digits how) p.x_at) (value_fourth (fixed_of p.y digits how) p.y_at)
-
-  positions_fourth : (ps : List Position) → AreOf 4 (items_faults digits how ps)
-  positions_fourth ps = each_fourth (position_faults digits how) position_fourth ps
-
-  line_fourth : (ps : Positions) → AreOf 4 (faults_of_line digits how ps)
-  line_fourth ps = of_append 4 (option_to_list (line_fault (length ps.items) ps.at)) (items_faults digits how ps.items) (short_fourth (nat_lt (length ps.items) 2) ps.at) (positions_fourth ps.items)
-
-  ring_fourth : (ps : Positions) → AreOf 4 (faults_of_ring digits how ps)
-  ring_fourth ps = of_append 4 (option_to_list (ring_fault (length ps.items) (is_closed digits how ps.items) ps.at)) (items_faults digits how ps.items)
-      (open_fourth (nat_lt (length ps.items) 4 || not (is_closed digits how ps.items)) ps.at) (positions_fourth ps.items)
-
-  area_fourth : (rings : List Positions) → AreOf 4 (faults_of_area digits how rings)
-  area_fourth rings = each_fourth (faults_of_ring digits how) ring_fourth rings
-
-  mutual
-    shape_fourth : (g : Geometry) → AreOf 4 (faults_of digits how g)
-    shape_fourth (point p) = each_fourth (position_faults digits how) position_fourth (option_to_list p)
-    shape_fourth (line_string ps) = each_fourth (faults_of_line digits how) line_fourth (option_to_list ps)
-    shape_fourth (polygon rings) = area_fourth rings
-    shape_fourth (multi_point ps) = each_fourth (position_faults digits how) position_fourth (present ps)
-    shape_fourth (multi_line_string ls) = each_fourth (faults_of_line digits how) line_fourth (present ls)
-    shape_fourth (multi_polygon areas) = each_fourth (faults_of_area digits how) area_fourth areas
-    shape_fourth (collection gs) = shapes_fourth gs
-
-    shapes_fourth : (gs : Geometries) → AreOf 4 (faults_of_all digits how gs)
-    shapes_fourth no_geometries = tt
-    shapes_fourth (geometry_and g gs) = of_append 4 (faults_of digits how g) (faults_of_all digits how gs) (shape_fourth g) (shapes_fourth gs)
-
   abbrev made : ℕ → Option Geometry → GeometryRead
   made at o = elim o [ None ↦ not_geometry at | Some g ↦ record { shape = shape_of digits how g; faults = faults_of digits how g } ]
 
   made_fourth : (at : ℕ) (o : Option Geometry) → AreOf 4 (made at o).faults
   made_fourth at None = (refl, tt)
-  made_fourth at (Some g) = shape_fourth g
+  made_fourth at (Some g) = fourth_of digits how g
 
   coordinates_fourth : (at : ℕ) (kind : Kind) (o : Option Tree) → AreOf 4 (coordinates_reading digits how at kind o).faults
   coordinates_fourth at kind None = (refl, tt)

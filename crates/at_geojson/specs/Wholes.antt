@@ -11,22 +11,22 @@ use Rattle.at_query.specs.declared.answer.parts.Part.{Part}
 use Rattle.at_query.specs.Parts.{IsPart}
 use Rattle.at_query.specs.Keeping.{Asked}
 use Rattle.at_geojson.specs.declared.root.FeatureFront.{FeatureFront}
-use Rattle.at_geojson.specs.declared.root.RootEnd.{RootEnd}
-use Rattle.at_geojson.specs.declared.root.RootEnd.TheVariants.{Found, Memory}
+use Rattle.at_text.specs.declared.refusals.Refusal.{Refusal}
+use Rattle.at_text.specs.declared.refusals.Refusal.TheVariants.{Found, Memory}
 use Rattle.at_geojson.specs.Roles.{features_of, role_faults_of}
 
 -- equal names, and what the roles find wrong
 abbrev pub faults_of : ℕ → Coords → Tree → List Fault
 faults_of digits how t = twins_of t ++ role_faults_of digits how t
 
-abbrev pub IsAnswer : Asked → Tree → Result Part RootEnd → Type 0
+abbrev pub IsAnswer : Asked → Tree → Result Part Refusal → Type 0
 IsAnswer asked t (Ok part) = (faults_of asked.digits asked.how t ≡ [])
     × IsPart asked.query (features_of asked.digits asked.how t) part
 IsAnswer asked t (Err (Found fault)) = first_of (faults_of asked.digits asked.how t) ≡ Some fault
 IsAnswer asked t (Err Memory) = ⊤
 
 -- what a whole text ends in that has the part, or the fault
-abbrev pub found_end : Result Part Fault → Result Part RootEnd
+abbrev pub found_end : Result Part Fault → Result Part Refusal
 found_end (Ok part) = Ok part
 found_end (Err fault) = Err (Found fault)
 

@@ -17,17 +17,11 @@ use crate::objects::members::feature_part;
 use crate::text::Text;
 use at_query::{Part, TextPairs};
 use at_scan::{TableNames, stands};
-use at_text::{Fault, Halt, Memory};
+use at_text::{Fault, Halt, Memory, Refusal};
 use std::alloc::Global;
 
-/// Why a text has no part.
-#[derive(Clone, Copy, Debug, PartialEq, Eq)]
-pub enum RootEnd {
-    /// The text's first fault.
-    Found(Fault),
-    /// Want of memory.
-    Memory,
-}
+/// Why a text has no part: its first fault, or want of memory.
+pub type RootEnd = Refusal;
 
 /// A feature with which a text begins: how many bytes it takes, and the part of a query that it gives where it is the
 /// whole text, or its first fault.
@@ -38,17 +32,17 @@ pub struct FeatureFront {
 }
 
 /// The part, or the fault.
-fn part_or_fault(found: Result<Part, Fault>) -> Result<Part, RootEnd>
+fn part_or_fault(found: Result<Part, Fault>) -> Result<Part, Refusal>
     ensures { result ≡ found_end found }
 {
     match found {
         Ok(part) => Ok(part),
-        Err(fault) => Err(RootEnd::Found(fault)),
+        Err(fault) => Err(Refusal::Found(fault)),
     }
 }
 
 /// The part of a geometry that is a feature without texts.
-fn lone_part(alloc: Global, algebra: &GeoAlgebra, at: u32, shape: Geometry) -> Result<Part, RootEnd>
+fn lone_part(alloc: Global, algebra: &GeoAlgebra, at: u32, shape: Geometry) -> Result<Part, Refusal>
     requires { IsShapeInRange shape }
     ensures { EndsLone algebra.now.query (record { at = at; shape = shape; texts = [] }) result }
 {
@@ -60,7 +54,7 @@ fn lone_part(alloc: Global, algebra: &GeoAlgebra, at: u32, shape: Geometry) -> R
         TextPairs::from_vec(Vec::new(alloc)),
     ) {
         Ok(part) => Ok(part),
-        Err(Memory) => Err(RootEnd::Memory),
+        Err(Memory) => Err(Refusal::Memory),
     }
 }
 
@@ -70,23 +64,23 @@ fn geometry_part(
     algebra: &GeoAlgebra,
     at: u32,
     geometry: Result<Geometry, Fault>,
-) -> Result<Part, RootEnd>
+) -> Result<Part, Refusal>
     requires { IfOwnShape algebra.now geometry }
     ensures { EndsGeometry algebra.now.query at geometry result }
 {
     match geometry {
         Ok(shape) => lone_part(alloc, algebra, at, shape),
-        Err(fault) => Err(RootEnd::Found(fault)),
+        Err(fault) => Err(Refusal::Found(fault)),
     }
 }
 
 /// The part of an object at the offset, by its role.
-fn role_part(alloc: Global, algebra: &GeoAlgebra, at: u32, role: Role) -> Result<Part, RootEnd>
+fn role_part(alloc: Global, algebra: &GeoAlgebra, at: u32, role: Role) -> Result<Part, Refusal>
     requires { IsOwnRole algebra.now role }
     ensures { EndsRole algebra.now.query at role result }
 {
     match role {
-        Role::Nothing => Err(RootEnd::Found(form_at(at))),
+        Role::Nothing => Err(Refusal::Found(form_at(at))),
         Role::Geometry(geometry) => geometry_part(alloc, algebra, at, geometry),
         Role::Feature(found) => part_or_fault(found),
         Role::Collection(found) => part_or_fault(found),
@@ -94,19 +88,19 @@ fn role_part(alloc: Global, algebra: &GeoAlgebra, at: u32, role: Role) -> Result
 }
 
 /// What the atom ends in as a whole text.
-fn atom_part(alloc: Global, algebra: &GeoAlgebra, atom: GeoAtom) -> Result<Part, RootEnd>
+fn atom_part(alloc: Global, algebra: &GeoAlgebra, atom: GeoAtom) -> Result<Part, Refusal>
     requires { IsOwn algebra.now atom }
     ensures { EndsAtom algebra.now.query atom result }
 {
     match atom {
-        GeoAtom::Twin(fault) => Err(RootEnd::Found(fault)),
+        GeoAtom::Twin(fault) => Err(Refusal::Found(fault)),
         GeoAtom::Object(object) => role_part(
             alloc,
             algebra,
             object.at,
             Box::into_inner(object.roles).role,
         ),
-        other => Err(RootEnd::Found(form_at(at_of(&other)))),
+        other => Err(Refusal::Found(form_at(at_of(&other)))),
     }
 }
 

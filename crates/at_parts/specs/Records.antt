@@ -28,25 +28,25 @@ AreLinesCut a b = ((front : List ℕ) × (a ≡ front ++ 0x0A ∷ [])) × (base_
 abbrev pub AreRecordsCut : List ℕ → List ℕ → Type 0
 AreRecordsCut a b = (rest : List ℕ) × (b ≡ 0x1E ∷ rest)
 
-module _ (digits : ℕ) (how : Coords) where
-  -- the file's features are those of both parts, in order, at their offsets in the file
-  abbrev pub LinesHaveFeaturesOfParts : Type 0
-  LinesHaveFeaturesOfParts = (a b : List ℕ) (fs gs : List Feature) → AreLinesCut a b
-      → AreFileFeatures digits how a fs → AreFileFeatures digits how b gs
-      → AreFileFeatures digits how (a ++ b) (fs ++ map (feature_moved (length a)) gs)
+-- the features of a file that is cut so are those of both parts, in order, at their offsets in the file
+abbrev pub HaveFeaturesOfParts : (List ℕ → List ℕ → Type 0) → (List ℕ → List Feature → Type 0) → Type 0
+HaveFeaturesOfParts AreCut Are = (a b : List ℕ) (fs gs : List Feature) → AreCut a b → Are a fs → Are b gs
+    → Are (a ++ b) (fs ++ map (feature_moved (length a)) gs)
 
-  -- the file's first fault is the first of both parts' first faults, that of the second one at its offset in the file
+-- its first fault is the first of both parts' first faults, that of the second one at its offset in the file
+abbrev pub HaveFaultsOfParts : (List ℕ → List ℕ → Type 0) → (List ℕ → Option Fault → Type 0) → Type 0
+HaveFaultsOfParts AreCut Has = (a b : List ℕ) (f g : Option Fault) → AreCut a b → Has a f → Has b g
+    → Has (a ++ b) (first_fault f (option_map (fault_moved (length a)) g))
+
+module _ (digits : ℕ) (how : Coords) where
+  abbrev pub LinesHaveFeaturesOfParts : Type 0
+  LinesHaveFeaturesOfParts = HaveFeaturesOfParts AreLinesCut (AreFileFeatures digits how)
+
   abbrev pub LinesHaveFaultsOfParts : Type 0
-  LinesHaveFaultsOfParts = (a b : List ℕ) (f g : Option Fault) → AreLinesCut a b → HasLinesFault digits how a f
-      → HasLinesFault digits how b g
-      → HasLinesFault digits how (a ++ b) (first_fault f (option_map (fault_moved (length a)) g))
+  LinesHaveFaultsOfParts = HaveFaultsOfParts AreLinesCut (HasLinesFault digits how)
 
   abbrev pub SequencesHaveFeaturesOfParts : Type 0
-  SequencesHaveFeaturesOfParts = (a b : List ℕ) (fs gs : List Feature) → AreRecordsCut a b
-      → AreSeqFeatures digits how a fs → AreSeqFeatures digits how b gs
-      → AreSeqFeatures digits how (a ++ b) (fs ++ map (feature_moved (length a)) gs)
+  SequencesHaveFeaturesOfParts = HaveFeaturesOfParts AreRecordsCut (AreSeqFeatures digits how)
 
   abbrev pub SequencesHaveFaultsOfParts : Type 0
-  SequencesHaveFaultsOfParts = (a b : List ℕ) (f g : Option Fault) → AreRecordsCut a b → HasSeqFault digits how a f
-      → HasSeqFault digits how b g
-      → HasSeqFault digits how (a ++ b) (first_fault f (option_map (fault_moved (length a)) g))
+  SequencesHaveFaultsOfParts = HaveFaultsOfParts AreRecordsCut (HasSeqFault digits how)

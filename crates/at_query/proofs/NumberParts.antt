@@ -61,36 +61,30 @@ module _ (digits : ℕ) (how : Coords) (delimiter : ℕ) (d : ends_number delimi
         (p, refl, (between w i j ++ more, delimiter ∷ [], sym (append_assoc (between w i j) more (delimiter ∷ [])), (refl, (hn, en)), refl)),
       )
 
+  -- a number would stand up to j, with the byte there behind it
+  stops_there : (j : ℕ) → i ≤ j → j ≤ length w → LongestViable WktNumber (drop i w) (j - i) → ((n : Placed) (v : List ℕ) → Agrees j n v → ⊥) → Stops (Number digits how delimiter) w i j
+  stops_there j h k l no_other = record {
+    order = h;
+    within = k;
+    viable = viable_there j h l;
+    dead = λ m v r (p, em, q) on.
+        let (r2, t, line) = onward_ahead w i j h (v ++ r) on in
+        no_other p v (agrees j h k l p v (r ++ r2) t q (sym (append_assoc v r r2) ∙ line));
+  }
+
   -- no number stands
   pub number_stops : (n : ℕ) → NumberBreaks w i n → Stops (Number digits how delimiter) w i n
-  number_stops n h = record {
-    order = h.order;
-    within = h.within;
-    viable = viable_there n h.order h.longest;
-    dead = λ m v r (p, em, q) on.
-        let (r2, t, line) = onward_ahead w i n h.order (v ++ r) on in
-        let a = agrees n h.order h.within h.longest p v (r ++ r2) t q (sym (append_assoc v r r2) ∙ line) in
-        h.no_number (p.number, a.numeral, a.text);
-  }
+  number_stops n h = stops_there n h.order h.within h.longest (λ p v a. h.no_number (p.number, a.numeral, a.text))
 
   module _ (j : ℕ) (n : Numeral) (h : NumberStands w i j n) where
     -- another byte stands behind it
     pub delimiter_stops : (k : ℕ) → WordBreaks w j k (delimiter ∷ []) → Stops (Number digits how delimiter) w i k
     delimiter_stops k b =
         let (e, differs) = one_byte w j k delimiter b in
-        let there : Stops (Number digits how delimiter) w i j = record {
-          order = h.order;
-          within = h.within;
-          viable = viable_there j h.order h.longest;
-          dead = λ m v r (p, em, q) on.
-              let (r2, t, line) = onward_ahead w i j h.order (v ++ r) on in
-              let a = agrees j h.order h.within h.longest p v (r ++ r2) t q (sym (append_assoc v r r2) ∙ line) in
-              elim (dec_lt j (length w)) [
-                | yes below ↦ differs (omega (arith, e)) (ap (λ z. between w j (z + 1)) e ∙ (part-one w j below ∙ ap (λ z. z ∷ []) (sym a.byte)))
-                | no past ↦ is_byte delimiter d (a.byte ∙ next_end w j (omega arith))
-              ];
-        } in
-        subst (Stops (Number digits how delimiter) w i) (sym e) there
+        subst (Stops (Number digits how delimiter) w i) (sym e) (stops_there j h.order h.within h.longest (λ p v a. elim (dec_lt j (length w)) [
+          | yes below ↦ differs (omega (arith, e)) (ap (λ z. between w j (z + 1)) e ∙ (part-one w j below ∙ ap (λ z. z ∷ []) (sym a.byte)))
+          | no past ↦ is_byte delimiter d (a.byte ∙ next_end w j (omega arith))
+        ]))
 
     pub number_ends_there : (k : ℕ) → WordStands w j k (delimiter ∷ []) → Ends (Number digits how delimiter) w i k (number_meaning digits how (record { number = n; at = i }))
     number_ends_there k s =

@@ -108,17 +108,17 @@ no_verb w e f g h i k =
 
 -- ---- the faults of a geometry are of one tier, so the first of them has the least offset
 
-abbrev Fourth : Fault → Type 0
+abbrev pub Fourth : Fault → Type 0
 Fourth f = tier_of f.kind ≡ 4
 
-abbrev AreFourth : List Fault → Type 0
+abbrev pub AreFourth : List Fault → Type 0
 AreFourth fs = AllByRecursion Fourth fs
 
-fourth_append : (fs gs : List Fault) → AreFourth fs → AreFourth gs → AreFourth (fs ++ gs)
+pub fourth_append : (fs gs : List Fault) → AreFourth fs → AreFourth gs → AreFourth (fs ++ gs)
 fourth_append [] gs h k = k
 fourth_append (f ∷ fs) gs (h, hs) k = (h, fourth_append fs gs hs k)
 
-fourth_each : {X : Type 0} (f : X → List Fault) → ((x : X) → AreFourth (f x)) → (xs : List X) → AreFourth (flat_map f xs)
+pub fourth_each : {X : Type 0} (f : X → List Fault) → ((x : X) → AreFourth (f x)) → (xs : List X) → AreFourth (flat_map f xs)
 fourth_each f h [] = tt
 fourth_each f h (x ∷ xs) = fourth_append (f x) (flat_map f xs) (h x) (fourth_each f h xs)
 
@@ -149,7 +149,7 @@ module _ (digits : ℕ) (how : Coords) where
   fourth_of_area rings = fourth_each (faults_of_ring digits how) fourth_of_ring rings
 
   mutual
-    fourth_of : (g : Geometry) → AreFourth (faults_of digits how g)
+    pub fourth_of : (g : Geometry) → AreFourth (faults_of digits how g)
     fourth_of (point p) = fourth_each (position_faults digits how) fourth_position (option_to_list p)
     fourth_of (line_string ps) = fourth_each (faults_of_line digits how) fourth_of_line (option_to_list ps)
     fourth_of (polygon rings) = fourth_of_area rings

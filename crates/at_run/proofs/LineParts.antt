@@ -13,11 +13,12 @@ use Rattle.at_fixed.specs.declared.rounding.Coords.{Coords}
 use Rattle.at_geom.specs.declared.shapes.Shape.{Shape}
 use Rattle.at_geom.specs.Shapes.{IsShapeInRange}
 use Rattle.at_lex.specs.Strings.{Character, JsonString}
-use Rattle.at_wkt.specs.declared.answers.LineFault.{LineFault}
-use Rattle.at_wkt.specs.declared.answers.LineFault.TheVariants.{Found, Memory as NoMemory}
+use Rattle.at_text.specs.declared.refusals.Refusal.{Refusal}
+use Rattle.at_text.specs.declared.refusals.Refusal.TheVariants.{Found, Memory as NoMemory}
 use Rattle.at_wkt.specs.Geometry.{Geometry}
 use Rattle.at_wkt.specs.Meaning.{shape_of, faults_of}
-use Rattle.at_wkt.specs.Answers.{IfFound, HasLineShape, HasFirstLineFault, HasFaultOrShape, unspelled, faulty}
+use Rattle.at_text.specs.Refusals.{IfFound}
+use Rattle.at_wkt.specs.Answers.{HasLineShape, HasFirstLineFault, HasFaultOrShape, unspelled, faulty}
 use Rattle.at_wkt.specs.Lines.{FileLine}
 use Rattle.at_query.specs.declared.features.Feature.{Feature}
 use Rattle.at_query.specs.declared.features.TextPair.{TextPair}
@@ -207,6 +208,6 @@ adds_feature asked line read (Failed fault) new is e lines h =
 
 -- ---- what a line's refusal becomes
 
-pub found_weaker : (end : LineFault) (P Q : Fault → Type 0) → ((fault : Fault) → P fault → Q fault) → IfFound end P → IfFound end Q
+pub found_weaker : (end : Refusal) (P Q : Fault → Type 0) → ((fault : Fault) → P fault → Q fault) → IfFound end P → IfFound end Q
 found_weaker (Found fault) P Q f h = f fault h
 found_weaker NoMemory P Q f h = tt

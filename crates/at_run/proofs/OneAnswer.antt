@@ -20,8 +20,8 @@ use Rattle.at_query.proofs.OneAnswer.{one_result, one_part, one_join}
 use Rattle.at_geojson.specs.Roles.{features_of}
 use Rattle.at_geojson.specs.Wholes.{faults_of}
 use Rattle.at_seq.proofs.OneSequence.{one_seq_fault, one_seq_features}
-use Rattle.at_run.specs.declared.faults.RunFault.{RunFault}
-use Rattle.at_run.specs.declared.faults.RunFault.TheVariants.{Found, Memory}
+use Rattle.at_text.specs.declared.refusals.Refusal.{Refusal}
+use Rattle.at_text.specs.declared.refusals.Refusal.TheVariants.{Found, Memory}
 use Rattle.at_run.specs.declared.faults.JoinFault.{JoinFault}
 use Rattle.at_run.specs.declared.faults.JoinFault.TheVariants as joins
 use Rattle.at_run.specs.declared.forms.Form.{Form}
@@ -34,7 +34,8 @@ use Rattle.at_run.proofs.FaultLists.{one_behind}
 use Rattle.at_run.specs.JsonFiles.{HaveJsonFaults, HasJsonFaultBehind}
 use Rattle.at_run.specs.Files.{HasFileFaultIn, TheFileFaultIn, AreJsonFeatures, AreFileFeaturesIn}
 use Rattle.at_run.specs.Joins.{first_end}
-use Rattle.at_run.specs.Answers.{IfFound, IsFilePart, IsFileAnswer, IsJoinAnswer, IsJoinFault, TheFilesFaults, IsTheJoinFault}
+use Rattle.at_text.specs.Refusals.{IfFound}
+use Rattle.at_run.specs.Answers.{IsFilePart, IsFileAnswer, IsJoinAnswer, IsJoinFault, TheFilesFaults, IsTheJoinFault}
 
 module _ (digits : ℕ) (how : Coords) where
   pub one_feature : (line : FileLine) (f g : Feature) → IsLineFeature digits how line f → IsLineFeature digits how line g → f ≡ g
@@ -87,7 +88,7 @@ module _ (form : Form) (digits : ℕ) (how : Coords) where
   the_file_fault_in bytes f p other q = one_file_fault_in form digits how bytes other f q p
 
   -- the fault that is found is the only first one
-  pub found_only : (bytes : List ℕ) (end : RunFault) → IfFound end (λ fault. HasFileFaultIn form digits how bytes (Some fault)) → IfFound end (λ fault. TheFileFaultIn form digits how bytes (Some fault))
+  pub found_only : (bytes : List ℕ) (end : Refusal) → IfFound end (λ fault. HasFileFaultIn form digits how bytes (Some fault)) → IfFound end (λ fault. TheFileFaultIn form digits how bytes (Some fault))
   found_only bytes (Found fault) h = the_file_fault_in bytes (Some fault) h
   found_only bytes Memory h = tt
 
@@ -130,6 +131,6 @@ module _ (form_a form_b : Form) (digits : ℕ) (how : Coords) (query : Query) (f
   only_join_fault (Err joins.Memory) h = tt
 
   -- where the first file's fault is why there is no join, no other one is its first
-  pub only_first_fault : (end : RunFault) (fault : JoinFault) → fault ≡ first_end end → IfFound end (λ f. HasFileFaultIn form_a digits how first (Some f)) → IsTheJoinFault form_a form_b digits how first second fault
+  pub only_first_fault : (end : Refusal) (fault : JoinFault) → fault ≡ first_end end → IfFound end (λ f. HasFileFaultIn form_a digits how first (Some f)) → IsTheJoinFault form_a form_b digits how first second fault
   only_first_fault (Found f) fault e h = rw e (the_file_fault_in form_a digits how first (Some f) h)
   only_first_fault Memory fault e h = rw e tt

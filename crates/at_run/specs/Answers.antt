@@ -8,17 +8,10 @@ use Rattle.at_query.specs.declared.answer.parts.Part.{Part}
 use Rattle.at_query.specs.declared.answer.answers.Answer.{Answer}
 use Rattle.at_query.specs.Results.{IsResult, IsJoined}
 use Rattle.at_query.specs.Parts.{IsPart}
-use Rattle.at_run.specs.declared.faults.RunFault.{RunFault}
-use Rattle.at_run.specs.declared.faults.RunFault.TheVariants.{Found, Memory}
 use Rattle.at_run.specs.declared.faults.JoinFault.{JoinFault}
 use Rattle.at_run.specs.declared.faults.JoinFault.TheVariants.{First, Second, Memory as NoMemory}
 use Rattle.at_run.specs.declared.forms.Form.{Form}
 use Rattle.at_run.specs.Files.{HasFileFaultIn, TheFileFaultIn, AreFileFeaturesIn}
-
--- a fact of the fault that was found; want of memory has no cause in the file
-abbrev pub IfFound : RunFault → (Fault → Type 0) → Type 0
-IfFound (Found fault) P = P fault
-IfFound Memory P = Unit {0}
 
 -- the file has no fault, and the part is that of its features
 pub record IsFilePart (form : Form) (digits : ℕ) (how : Coords) (query : Query) (bytes : List ℕ) (part : Part)

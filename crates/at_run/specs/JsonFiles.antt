@@ -13,12 +13,10 @@ use Rattle.at_nest.specs.declared.finishing.NestEnd.TheVariants as texts
 use Rattle.at_query.specs.declared.query.queries.Query.{Query}
 use Rattle.at_query.specs.declared.answer.parts.Part.{Part}
 use Rattle.at_query.specs.Parts.{IsPart}
-use Rattle.at_geojson.specs.declared.root.RootEnd.{RootEnd}
-use Rattle.at_geojson.specs.declared.root.RootEnd.TheVariants as roots
+use Rattle.at_text.specs.declared.refusals.Refusal.{Refusal}
 use Rattle.at_geojson.specs.Roles.{features_of}
 use Rattle.at_geojson.specs.Wholes.{faults_of}
-use Rattle.at_run.specs.declared.faults.RunFault.{RunFault}
-use Rattle.at_run.specs.declared.faults.RunFault.TheVariants.{Found, Memory}
+use Rattle.at_text.specs.declared.refusals.Refusal.TheVariants.{Found, Memory}
 
 module _ (digits : ℕ) (how : Coords) where
   -- the one syntax fault, or else all equal names and all that the roles find wrong
@@ -35,20 +33,15 @@ module _ (digits : ℕ) (how : Coords) where
   HasJsonFileFault bytes first = HasJsonFaultBehind (utf8_fault bytes) bytes first
 
   -- what a file whose encoding has no fault ends in
-  abbrev pub EndsJson : Query → List ℕ → Result Part RunFault → Type 0
+  abbrev pub EndsJson : Query → List ℕ → Result Part Refusal → Type 0
   EndsJson query bytes (Ok part) = (t : Tree) × IsFileOf bytes t × (faults_of digits how t ≡ [])
       × IsPart query (features_of digits how t) part
   EndsJson query bytes (Err (Found fault)) = (faults : List Fault) × HaveJsonFaults bytes faults
       × (Some fault ≡ first_of faults)
   EndsJson query bytes (Err Memory) = ⊤
 
--- the fault of a text of so many bytes, and what a whole text ends in, as a file's
-abbrev pub text_end : ℕ → NestEnd → RunFault
+-- why a text of so many bytes has no tree
+abbrev pub text_end : ℕ → NestEnd → Refusal
 text_end len (texts.Syntax place) = Found (fault_at kinds.Syntax place)
 text_end len texts.Ended = Found (fault_at kinds.Ended len)
 text_end len texts.Memory = Memory
-
-abbrev pub root_end : Result Part RootEnd → Result Part RunFault
-root_end (Ok part) = Ok part
-root_end (Err (roots.Found fault)) = Err (Found fault)
-root_end (Err roots.Memory) = Err Memory

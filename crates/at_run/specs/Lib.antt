@@ -11,4 +11,3 @@ pub mod Gathering
 pub mod Readers
 -- Of private functions and fields: nothing here has to be believed.
 pub mod Labelling
-pub mod SequenceEnds

@@ -3,16 +3,10 @@
 ghost use Rattle.std.specs.Prelude.{◌≡◌};
 ghost use Rattle.at_run.specs.Joins.{first_end};
 
-use at_text::Fault;
+use at_text::{Fault, Refusal};
 
-/// Why a file has no answer.
-#[derive(Clone, Copy, Debug, PartialEq, Eq)]
-pub enum RunFault {
-    /// The file's first fault, at its offset.
-    Found(Fault),
-    /// An allocation was refused.
-    Memory,
-}
+/// Why a file has no answer: its first fault, or want of memory.
+pub type RunFault = Refusal;
 
 /// Why two files have no join.
 #[derive(Clone, Copy, Debug, PartialEq, Eq)]
@@ -25,14 +19,14 @@ pub enum JoinFault {
     Memory,
 }
 
-impl RunFault {
+impl JoinFault {
     /// Why two files have no join, where this is why the first has no entries.
-    pub fn of_first(self) -> JoinFault
-        ensures { result ≡ first_end self }
+    pub fn of_first(end: Refusal) -> JoinFault
+        ensures { result ≡ first_end end }
     {
-        match self {
-            RunFault::Found(fault) => JoinFault::First(fault),
-            RunFault::Memory => JoinFault::Memory,
+        match end {
+            Refusal::Found(fault) => JoinFault::First(fault),
+            Refusal::Memory => JoinFault::Memory,
         }
     }
 }

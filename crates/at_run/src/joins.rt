@@ -2,23 +2,24 @@
 
 ghost use Rattle.std.specs.Prelude.{◌≡◌, ◌-◌, ◌<◌, ◌≤◌, ◌^◌, [], length, MatchResult, Some, None, Err, IfOk};
 ghost use Rattle.at_text.specs.Texts.{base_of as text_begin};
+ghost use Rattle.at_text.specs.Refusals.{IfFound};
 ghost use Rattle.at_query.specs.Ranges.{IsQueryInRange};
 ghost use Rattle.at_query.specs.Parts.{AreProper};
 ghost use Rattle.at_blocks.specs.Places.{first_place, last_place};
 ghost use Rattle.at_blocks.specs.Blocks.{NoneGivenUp};
 ghost use Rattle.at_run.specs.Files.{HasFileFaultIn};
-ghost use Rattle.at_run.specs.Answers.{IfFound, IsFilePart, IsJoinAnswer, IsJoinFault, TheFilesFaults, IsTheJoinFault};
+ghost use Rattle.at_run.specs.Answers.{IsFilePart, IsJoinAnswer, IsJoinFault, TheFilesFaults, IsTheJoinFault};
 ghost use Rattle.at_run.specs.Joins.{PairsWith, EndsSecond};
 
 use crate::answers::part;
-use crate::faults::{JoinFault, RunFault};
+use crate::faults::JoinFault;
 use crate::forms::Form;
 use at_blocks::Cuts;
 use at_crew::Gate;
 use at_fixed::Coords;
 use at_join::pairs_grid;
 use at_query::{Answer, Entries, Part, Query, Tests, Verb};
-use at_text::Fault;
+use at_text::{Fault, Refusal};
 use std::alloc::Global;
 use std::thread::Threads;
 
@@ -56,7 +57,7 @@ fn entries<G: Gate, R: Threads + Sync>(
     how: Coords,
     workers: u32,
     gate: &G,
-) -> Result<Entries, RunFault>
+) -> Result<Entries, Refusal>
     requires short { length bytes.now ≤ 2 ^ 28 }
     requires first { first_place cuts.now ≡ text_begin bytes.now }
     requires last { last_place cuts.now ≡ length bytes.now }
@@ -87,7 +88,7 @@ fn join_with<G: Gate, R: Threads + Sync>(
     rt: &R,
     alloc: Global,
     first: Entries,
-    second: Result<Entries, RunFault>,
+    second: Result<Entries, Refusal>,
     workers: u32,
     gate: &G,
 ) -> Result<Answer, JoinFault>
@@ -95,13 +96,13 @@ fn join_with<G: Gate, R: Threads + Sync>(
     requires second { IfOk second AreProper }
     requires workers { (0 < workers) × (workers ≤ 64) }
     ensures answer { MatchResult result (PairsWith first second) (EndsSecond second) }
-    ensures found { (fault : Fault) → second ≡ Err (RunFault.Found fault) → result ≡ Err (JoinFault.Second fault) }
+    ensures found { (fault : Fault) → second ≡ Err (Refusal.Found fault) → result ≡ Err (JoinFault.Second fault) }
     ensures gate { IfOk result (λ _. NoneGivenUp (G.given_up gate.now) 0 64) }
 {
     let entries = match second {
         Ok(entries) => entries,
-        Err(RunFault::Found(fault)) => return Err(JoinFault::Second(fault)),
-        Err(RunFault::Memory) => return Err(JoinFault::Memory),
+        Err(Refusal::Found(fault)) => return Err(JoinFault::Second(fault)),
+        Err(Refusal::Memory) => return Err(JoinFault::Memory),
     };
     match pairs_grid(rt, alloc, first, entries, workers, gate) {
         Ok(pairs) => Ok(Answer::Pairs(pairs)),
@@ -158,7 +159,7 @@ pub fn answer_join<G: Gate, R: Threads + Sync>(
         rt, alloc, a, form_a, cuts_a, query, digits, how, workers, gate,
     ) {
         Ok(entries) => entries,
-        Err(end) => return Err(end.of_first()),
+        Err(end) => return Err(JoinFault::of_first(end)),
     };
     let second = entries(
         rt, alloc, b, form_b, cuts_b, &all, digits, how, workers, gate,

@@ -2,48 +2,37 @@
 
 ghost use Rattle.std.specs.Prelude.{◌≡◌, ◌≤◌, ◌^◌, length, drop, MatchResult, Some};
 ghost use Rattle.at_text.specs.Texts.{base_of as text_begin};
+ghost use Rattle.at_text.specs.Refusals.{IfFound};
 ghost use Rattle.at_nest.specs.FragmentMeanings.{StandsFor};
 ghost use Rattle.at_geojson.specs.Atoms.{IsGeoAtom};
 ghost use Rattle.at_run.specs.declared.forms.Form.TheVariants.{GeoJson};
 ghost use Rattle.at_run.specs.Files.{HasFileFaultIn};
-ghost use Rattle.at_run.specs.Answers.{IfFound, IsFilePart};
-ghost use Rattle.at_run.specs.JsonFiles.{EndsJson, text_end, root_end};
+ghost use Rattle.at_run.specs.Answers.{IsFilePart};
+ghost use Rattle.at_run.specs.JsonFiles.{EndsJson, text_end};
 ghost use Rattle.at_run.specs.JsonFragments.{StandsForText};
 
-use crate::faults::RunFault;
 use crate::json_fragments::JsonFragment;
 use at_blocks::is_valid_around;
-use at_geojson::{GeoAlgebra, RootEnd, root_part};
+use at_geojson::{GeoAlgebra, root_part};
 use at_nest::{Fragment, NestEnd, finish};
 use at_query::Part;
-use at_text::{Fault, FaultKind, utf8_fault};
+use at_text::{Fault, FaultKind, Refusal, utf8_fault};
 use std::alloc::Global;
 
 /// The fault of a file of so many bytes that is no JSON text.
-fn end_of_text(end: NestEnd, len: u32) -> RunFault
+fn end_of_text(end: NestEnd, len: u32) -> Refusal
     ensures { result ≡ text_end len end }
 {
     match end {
-        NestEnd::Syntax(at) => RunFault::Found(Fault {
+        NestEnd::Syntax(at) => Refusal::Found(Fault {
             kind: FaultKind::Syntax,
             at,
         }),
-        NestEnd::Ended => RunFault::Found(Fault {
+        NestEnd::Ended => Refusal::Found(Fault {
             kind: FaultKind::Ended,
             at: len,
         }),
-        NestEnd::Memory => RunFault::Memory,
-    }
-}
-
-/// What a whole text ends in, as a file's end.
-fn end_of_root(end: Result<Part, RootEnd>) -> Result<Part, RunFault>
-    ensures { result ≡ root_end end }
-{
-    match end {
-        Ok(part) => Ok(part),
-        Err(RootEnd::Found(fault)) => Err(RunFault::Found(fault)),
-        Err(RootEnd::Memory) => Err(RunFault::Memory),
+        NestEnd::Memory => Refusal::Memory,
     }
 }
 
@@ -53,14 +42,14 @@ fn tree_part(
     algebra: &GeoAlgebra,
     bytes: &[u8],
     whole: Fragment<GeoAlgebra>,
-) -> Result<Part, RunFault>
+) -> Result<Part, Refusal>
     requires fits { length bytes.now ≤ 2 ^ 28 }
     requires whole { StandsFor (IsGeoAtom algebra.now)
         (text_begin bytes.now) (drop (text_begin bytes.now) bytes.now) whole }
     ensures { EndsJson algebra.now.digits algebra.now.how algebra.now.query bytes.now result }
 {
     match finish(alloc, algebra, bytes, whole) {
-        Ok(atom) => end_of_root(root_part(alloc, algebra, atom)),
+        Ok(atom) => root_part(alloc, algebra, atom),
         Err(end) => Err(end_of_text(end, bytes.len() as u32)),
     }
 }
@@ -76,7 +65,7 @@ pub fn finish_json(
     algebra: &GeoAlgebra,
     bytes: &[u8],
     whole: Fragment<GeoAlgebra>,
-) -> Result<Part, RunFault>
+) -> Result<Part, Refusal>
     requires fits { length bytes.now ≤ 2 ^ 28 }
     requires whole { StandsFor (IsGeoAtom algebra.now)
         (text_begin bytes.now) (drop (text_begin bytes.now) bytes.now) whole }
@@ -85,7 +74,7 @@ pub fn finish_json(
         (Some fault))) }
 {
     if let Some(fault) = utf8_fault(bytes) {
-        return Err(RunFault::Found(fault));
+        return Err(Refusal::Found(fault));
     }
     tree_part(alloc, algebra, bytes, whole)
 }
@@ -100,7 +89,7 @@ pub fn finish_json_file(
     algebra: &GeoAlgebra,
     bytes: &[u8],
     whole: JsonFragment,
-) -> Result<Part, RunFault>
+) -> Result<Part, Refusal>
     requires fits { length bytes.now ≤ 2 ^ 28 }
     requires whole { StandsForText algebra.now (text_begin bytes.now) (drop (text_begin bytes.now) bytes.now) whole }
     ensures { MatchResult result (IsFilePart GeoJson algebra.now.digits algebra.now.how algebra.now.query bytes.now)

@@ -2,6 +2,7 @@
 
 ghost use Rattle.std.specs.Prelude.{◌≡◌, ◌≤◌, ◌^◌, List, length, drop, MatchResult, Some};
 ghost use Rattle.at_text.specs.Texts.{base_of as text_begin};
+ghost use Rattle.at_text.specs.Refusals.{IfFound};
 ghost use Rattle.at_wkt.specs.Folding.{OwnFold, StandsFor};
 ghost use Rattle.at_wkt.specs.Lines.{lines_of};
 ghost use Rattle.at_query.specs.Parts.{IsPart};
@@ -11,23 +12,22 @@ ghost use Rattle.at_query.specs.declared.features.Feature.{Feature};
 ghost use Rattle.at_run.specs.declared.forms.Form.TheVariants.{Wkt};
 ghost use Rattle.at_run.specs.Gathering.{Asked, IsOwn, IsGathered};
 ghost use Rattle.at_run.specs.Files.{HasFileFaultIn};
-ghost use Rattle.at_run.specs.Answers.{IfFound, IsFilePart};
+ghost use Rattle.at_run.specs.Answers.{IsFilePart};
 
-use crate::faults::RunFault;
 use crate::line_queries::LineQuery;
 use at_query::{Accumulator, Gathered, Part};
-use at_text::utf8_fault;
+use at_text::{Refusal, utf8_fault};
 use at_wkt::{LineFragment, finish_lines};
 use std::alloc::Global;
 
 /// The part of the features of which this is kept.
-fn part_of_kept(kept: Accumulator) -> Result<Part, RunFault>
+fn part_of_kept(kept: Accumulator) -> Result<Part, Refusal>
     ensures { MatchResult result (λ part. (query : Query) (fs : List Feature) → IsAccumulated query fs kept
-        → IsPart query fs part) (λ end. end ≡ RunFault.Memory) }
+        → IsPart query fs part) (λ end. end ≡ Refusal.Memory) }
 {
     match kept.into_part() {
         Ok(part) => Ok(part),
-        Err(_) => Err(RunFault::Memory),
+        Err(_) => Err(Refusal::Memory),
     }
 }
 
@@ -35,7 +35,7 @@ fn part_of_kept(kept: Accumulator) -> Result<Part, RunFault>
 ///
 /// The encoding of the whole file is looked at only where a line has a fault: without labels, what lines without one
 /// spell is ASCII, and the encoding of a label is looked at with its line.
-fn end_of(bytes: &[u8], gathered: Gathered) -> Result<Part, RunFault>
+fn end_of(bytes: &[u8], gathered: Gathered) -> Result<Part, Refusal>
     requires fits { length bytes.now ≤ 2 ^ 28 }
     ensures { (asked : Asked) → IsGathered asked gathered (lines_of bytes.now)
         → MatchResult result (IsFilePart Wkt asked.digits asked.how asked.query bytes.now)
@@ -43,7 +43,7 @@ fn end_of(bytes: &[u8], gathered: Gathered) -> Result<Part, RunFault>
 {
     match gathered {
         Gathered::Kept(kept) => part_of_kept(kept),
-        Gathered::Failed(fault) => Err(RunFault::Found(utf8_fault(bytes).unwrap_or(fault))),
+        Gathered::Failed(fault) => Err(Refusal::Found(utf8_fault(bytes).unwrap_or(fault))),
     }
 }
 
@@ -57,7 +57,7 @@ pub fn finish_line_file(
     query: &LineQuery<'_>,
     bytes: &[u8],
     whole: LineFragment<Gathered>,
-) -> Result<Part, RunFault>
+) -> Result<Part, Refusal>
     requires fits { length bytes.now ≤ 2 ^ 28 }
     requires whole { StandsFor (OwnFold (IsOwn query.now) (IsGathered query.now)) (text_begin bytes.now)
         (drop (text_begin bytes.now) bytes.now) whole }
@@ -66,6 +66,6 @@ pub fn finish_line_file(
 {
     match finish_lines(alloc, query, bytes, whole) {
         Ok(gathered) => end_of(bytes, gathered),
-        Err(_) => Err(RunFault::Memory),
+        Err(_) => Err(Refusal::Memory),
     }
 }

@@ -1,7 +1,7 @@
 //! A query that is asked of lines of Well-Known Text, each of which is a feature.
 
 ghost use Rattle.std.specs.Prelude.{◌≡◌, ◌≢◌, false, ◌+◌, ◌≤◌, ◌^◌, length, take, ◌∷◌, [], IsTrue, IfOk, MatchResult};
-ghost use Rattle.at_wkt.specs.Answers.{IfFound};
+ghost use Rattle.at_text.specs.Refusals.{IfFound};
 ghost use Rattle.at_wkt.specs.Folding.{AddsLines};
 ghost use Rattle.at_query.specs.Ranges.{IsQueryInRange};
 ghost use Rattle.at_query.specs.GatheredParts.{IsJoinOf};
@@ -14,22 +14,22 @@ use at_query::{
     Accumulator, Feature, Gathered, LentFeature, Query, Verb, add_fault, add_feature, add_lent,
     count_line, joined,
 };
-use at_text::{Fault, Memory};
-use at_wkt::{Fold, LineFault, Room, read_line};
+use at_text::{Fault, Memory, Refusal};
+use at_wkt::{Fold, Room, read_line};
 use std::alloc::Global;
 use std::marker::Model;
 
 /// Puts a line that has no shape behind those before it.
-fn add_end(gathered: &mut Gathered, end: LineFault) -> Result<(), Memory>
-    ensures { IfOk result (λ _. (fault : Fault) × (end ≡ LineFault.Found fault)
+fn add_end(gathered: &mut Gathered, end: Refusal) -> Result<(), Memory>
+    ensures { IfOk result (λ _. (fault : Fault) × (end ≡ Refusal.Found fault)
         × IsJoinOf gathered.old (Gathered.Failed fault) gathered.new) }
 {
     match end {
-        LineFault::Found(fault) => {
+        Refusal::Found(fault) => {
             add_fault(gathered, fault);
             Ok(())
         }
-        LineFault::Memory => Err(Memory),
+        Refusal::Memory => Err(Memory),
     }
 }
 
@@ -59,7 +59,7 @@ impl<'a> LineQuery<'a> {
     }
 
     /// What is read of a line, which begins at the offset. Its label is kept only where a test asks for labels.
-    fn feature(&self, alloc: Global, text: &[u8], at: u32) -> Result<Feature, LineFault>
+    fn feature(&self, alloc: Global, text: &[u8], at: u32) -> Result<Feature, Refusal>
         requires { at + length text.now ≤ 2 ^ 28 }
         ensures { MatchResult result (IsLineRead self.now (record { at = at; text = text.now }))
             (λ end. IfFound end (λ fault. IsGathered self.now (Gathered.Failed fault)
@@ -67,7 +67,7 @@ impl<'a> LineQuery<'a> {
     {
         let line = match behind_label(text, text.len(), at) {
             Ok(line) => line,
-            Err(fault) => return Err(LineFault::Found(fault)),
+            Err(fault) => return Err(Refusal::Found(fault)),
         };
         let texts = front_texts(alloc, line.label, self.query.tests.as_slice())?;
         let shape = read_line(

@@ -3,9 +3,10 @@
 ghost use Rattle.std.specs.Prelude.{◌≡◌, ◌≤◌, ◌^◌, length, MatchResult, Some};
 ghost use Rattle.at_text.specs.Spans.{StandsAt};
 ghost use Rattle.at_text.specs.Texts.{base_of as text_begin};
+ghost use Rattle.at_text.specs.Refusals.{IfFound};
 ghost use Rattle.at_query.specs.Ranges.{IsQueryInRange};
 ghost use Rattle.at_run.specs.Files.{HasFileFaultIn};
-ghost use Rattle.at_run.specs.Answers.{IfFound, IsFilePart};
+ghost use Rattle.at_run.specs.Answers.{IsFilePart};
 ghost use Rattle.at_run.specs.Readers.{Asks, of_lines, of_json, StandsInForm};
 
 use crate::faults::RunFault;

@@ -485,8 +485,8 @@ fn ends_of_joins(rt: HostRuntime) -> Result<(), Fail> {
         kind: FaultKind::Syntax,
         at: 3,
     };
-    assert!(rt; RunFault::Found(fault).of_first() == JoinFault::First(fault));
-    assert!(rt; RunFault::Memory.of_first() == JoinFault::Memory);
+    assert!(rt; JoinFault::of_first(RunFault::Found(fault)) == JoinFault::First(fault));
+    assert!(rt; JoinFault::of_first(RunFault::Memory) == JoinFault::Memory);
     Ok(())
 }
 

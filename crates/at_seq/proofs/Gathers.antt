@@ -22,7 +22,7 @@ use Rattle.at_query.specs.Keeping.{Asked}
 use Rattle.at_query.proofs.Joining.{part_is_proper}
 use Rattle.at_query.proofs.Accumulating.{are_of_one_verb}
 use Rattle.at_geojson.specs.declared.atoms.atom.GeoAtom.{GeoAtom}
-use Rattle.at_geojson.specs.declared.root.RootEnd.{RootEnd}
+use Rattle.at_text.specs.declared.refusals.Refusal.{Refusal}
 use Rattle.at_geojson.specs.Atoms.{IsFold, IsGeoAtom}
 use Rattle.at_geojson.specs.Roles.{features_of}
 use Rattle.at_geojson.specs.Wholes.{faults_of, found_end, IsAnswer}
@@ -83,7 +83,7 @@ module _ (asked : Asked) where
     tree_part t (Err fault) is h = first_one asked.digits asked.how r (faults_of asked.digits asked.how t) (Some fault) (inr (t, is, refl)) (sym h)
 
     -- as its atom says it
-    pub root_has : (atom : GeoAtom) (end : Result Part RootEnd) (part : Result Part Fault) → Answers (IsGeoAtom asked) r.at r.text (Ok atom)
+    pub root_has : (atom : GeoAtom) (end : Result Part Refusal) (part : Result Part Fault) → Answers (IsGeoAtom asked) r.at r.text (Ok atom)
         → ((t : Tree) → IsFold asked atom t → IsAnswer asked t end) → end ≡ found_end part → HasRecordPart asked r part
     root_has atom end part (t, (is, only), (own, fold)) h e = tree_part t part is (subst (IsAnswer asked t) e (h t fold))
 

@@ -13,12 +13,13 @@ use Rattle.at_query.specs.declared.answer.parts.Part.{Part}
 use Rattle.at_query.specs.Keeping.{Asked}
 use Rattle.at_geojson.specs.Roles.{features_of}
 use Rattle.at_geojson.specs.Wholes.{faults_of}
-use Rattle.at_seq.specs.declared.ends.SeqEnd.{SeqEnd}
-use Rattle.at_seq.specs.declared.ends.SeqEnd.TheVariants.{Found, Memory}
+use Rattle.at_text.specs.declared.refusals.Refusal.{Refusal}
+use Rattle.at_text.specs.declared.refusals.Refusal.TheVariants.{Found, Memory}
 use Rattle.at_text.specs.Separated.{Piece}
 use Rattle.at_seq.specs.Records.{pieces_of, records_of}
 use Rattle.at_seq.specs.Sequences.{head_faults, HasRecordFaults, HaveRecordFaults, HasSeqFaultBehind, HasSeqFault, TheSeqFault, AreRecordFeatures, AreSeqFeatures}
-use Rattle.at_seq.specs.Answers.{IfFound, IsSeqPart}
+use Rattle.at_text.specs.Refusals.{IfFound}
+use Rattle.at_seq.specs.Answers.{IsSeqPart}
 
 module _ (digits : ℕ) (how : Coords) where
   one_record_faults : (r : Piece) (fs gs : List Fault) → HasRecordFaults digits how r fs → HasRecordFaults digits how r gs → fs ≡ gs
@@ -43,7 +44,7 @@ module _ (digits : ℕ) (how : Coords) where
   the_seq_fault bytes f p other q = one_seq_fault bytes other f q p
 
   -- the fault that is found is the only first one
-  pub found_only : (bytes : List ℕ) (end : SeqEnd) → IfFound end (λ fault. HasSeqFault digits how bytes (Some fault)) → IfFound end (λ fault. TheSeqFault digits how bytes (Some fault))
+  pub found_only : (bytes : List ℕ) (end : Refusal) → IfFound end (λ fault. HasSeqFault digits how bytes (Some fault)) → IfFound end (λ fault. TheSeqFault digits how bytes (Some fault))
   found_only bytes (Found fault) h = the_seq_fault bytes (Some fault) h
   found_only bytes Memory h = tt
 
@@ -57,7 +58,7 @@ module _ (digits : ℕ) (how : Coords) where
   one_seq_features bytes fs gs p q = one_features (records_of bytes) fs gs p q
 
 -- what a whole sequence ends in tells the only first fault
-pub only_end : (asked : Asked) (bytes : List ℕ) (end : Result Part SeqEnd) → MatchResult end (IsSeqPart asked.digits asked.how asked.query bytes) (λ e. IfFound e (λ fault. HasSeqFault asked.digits asked.how bytes (Some fault)))
+pub only_end : (asked : Asked) (bytes : List ℕ) (end : Result Part Refusal) → MatchResult end (IsSeqPart asked.digits asked.how asked.query bytes) (λ e. IfFound e (λ fault. HasSeqFault asked.digits asked.how bytes (Some fault)))
     → MatchResult end (λ part. TheSeqFault asked.digits asked.how bytes None) (λ e. IfFound e (λ fault. TheSeqFault asked.digits asked.how bytes (Some fault)))
 only_end asked bytes (Ok part) h = the_seq_fault asked.digits asked.how bytes None h.faultless
 only_end asked bytes (Err end) h = found_only asked.digits asked.how bytes end h

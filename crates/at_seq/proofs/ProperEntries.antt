@@ -28,8 +28,9 @@ use Rattle.at_text.specs.Separated.{Piece, placed}
 use Rattle.at_seq.specs.Records.{are_spaces, is_separator, pieces_of, records_in}
 use Rattle.at_seq.proofs.PieceRecords.{records_in-append, no_record, one_record}
 use Rattle.at_seq.specs.Sequences.{head_faults, HasRecordFaults, HaveRecordFaults, HasSeqFaultBehind, HasSeqFault, AreRecordFeatures, AreSeqFeatures}
-use Rattle.at_seq.specs.declared.ends.SeqEnd.{SeqEnd}
-use Rattle.at_seq.specs.Answers.{IfFound, IsSeqPart, HasProperEntries}
+use Rattle.at_text.specs.declared.refusals.Refusal.{Refusal}
+use Rattle.at_text.specs.Refusals.{IfFound}
+use Rattle.at_seq.specs.Answers.{IsSeqPart, HasProperEntries}
 
 module _ (digits : ℕ) (how : Coords) where
   -- a record without faults spells a tree without faults
@@ -119,6 +120,6 @@ module _ (digits : ℕ) (how : Coords) where
       entries_are_proper query h.features es (joins_entries query.verb kept es e) h.is_part (seq_features_proper bytes h.features h.faultless h.are_features)
   part_proper query bytes _ h = tt
 
-pub proper_end : (asked : Asked) (bytes : List ℕ) (end : Result Part SeqEnd) → MatchResult end (IsSeqPart asked.digits asked.how asked.query bytes) (λ e. IfFound e (λ fault. HasSeqFault asked.digits asked.how bytes (Some fault))) → IfOk end HasProperEntries
+pub proper_end : (asked : Asked) (bytes : List ℕ) (end : Result Part Refusal) → MatchResult end (IsSeqPart asked.digits asked.how asked.query bytes) (λ e. IfFound e (λ fault. HasSeqFault asked.digits asked.how bytes (Some fault))) → IfOk end HasProperEntries
 proper_end asked bytes (Ok part) h = part_proper asked.digits asked.how asked.query bytes part h
 proper_end asked bytes (Err end) h = tt

@@ -27,7 +27,7 @@ use Rattle.at_nest.specs.declared.fragments.Fragment.{Fragment}
 use Rattle.at_geojson.specs.Atoms.{IsOwn, IsFold, IsGeoAtom}
 use Rattle.at_query.specs.declared.answer.gathered.Gathered.{Gathered}
 use Rattle.at_query.specs.declared.answer.gathered.Gathered.TheVariants.{Kept, Failed}
-use Rattle.at_seq.specs.declared.ends.SeqEnd.{SeqEnd}
+use Rattle.at_text.specs.declared.refusals.Refusal.{Refusal}
 use Rattle.at_seq.specs.declared.fragments.PartedText.{PartedText}
 use Rattle.at_seq.specs.declared.fragments.SeqRead.{SeqRead}
 use Rattle.at_seq.specs.declared.fragments.SeqText.{SeqText}
@@ -36,7 +36,8 @@ use Rattle.at_seq.specs.declared.fragments.SeqFragment.TheVariants.{Read}
 use Rattle.at_blocks.specs.Encodings.{IsValidIn}
 use Rattle.at_seq.specs.Records.{pieces_from, pieces_of, records_in, records_of}
 use Rattle.at_seq.specs.Sequences.{stray_faults, head_faults, HasSeqFaultBehind, HasSeqFault}
-use Rattle.at_seq.specs.Answers.{IfFound, IsSeqPart}
+use Rattle.at_text.specs.Refusals.{IfFound}
+use Rattle.at_seq.specs.Answers.{IsSeqPart}
 use Rattle.at_seq.specs.Gathering.{IsFirstOfRecords, IsGathered, AddsRecords}
 use Rattle.at_seq.specs.Fragments.{SeqAsks, piece_in, pieces_in, HoldsParted, HoldsText, HoldsSpan, HoldsFragment, StandsInFile}
 use Rattle.at_seq.specs.declared.fragments.SeqFragment.{SeqFragment}
@@ -161,14 +162,14 @@ module _ (asked : Asked) (bytes : List ℕ) where
       let P : Option Fault → Type 0 = λ o. HasSeqFaultBehind asked.digits asked.how o bytes first in
       subst P (sym valid) (faults, have, e ∙ (ap (λ z. first_fault z b) head_is ∙ (ap (first_fault (first_of (head_faults (pieces_of bytes)))) is ∙ sym (first_of-append (head_faults (pieces_of bytes)) faults))))
 
-  abbrev Ended : Result Part SeqEnd → Type 0
+  abbrev Ended : Result Part Refusal → Type 0
   Ended end = MatchResult end (IsSeqPart asked.digits asked.how asked.query bytes) (λ e. IfFound e (λ fault. HasSeqFault asked.digits asked.how bytes (Some fault)))
 
-  pub ended : (kept : Gathered) (head : Option Fault) (result : Result Part SeqEnd) → utf8_fault bytes ≡ None → head ≡ first_of (head_faults (pieces_of bytes)) → IsGathered asked kept (records_of bytes) → IsEndOf kept head result
+  pub ended : (kept : Gathered) (head : Option Fault) (result : Result Part Refusal) → utf8_fault bytes ≡ None → head ≡ first_of (head_faults (pieces_of bytes)) → IsGathered asked kept (records_of bytes) → IsEndOf kept head result
       → MatchResult result (IsSeqPart asked.digits asked.how asked.query bytes) (λ e. IfFound e (λ fault. HasSeqFault asked.digits asked.how bytes (Some fault)))
   ended (Kept kept) None (Ok part) valid head_is (none, (features, are, is)) e =
       record { faultless = first_behind None None None valid head_is none refl; features = features; are_features = are; is_part = e asked.query features is }
-  ended (Kept kept) None (Err end) valid head_is h e = let P : SeqEnd → Type 0 = λ z. IfFound z (λ fault. HasSeqFault asked.digits asked.how bytes (Some fault)) in subst P (sym e) tt
+  ended (Kept kept) None (Err end) valid head_is h e = let P : Refusal → Type 0 = λ z. IfFound z (λ fault. HasSeqFault asked.digits asked.how bytes (Some fault)) in subst P (sym e) tt
   ended (Kept kept) (Some fault) result valid head_is (none, part_is) e = subst Ended (sym e) (first_behind (Some fault) None (Some fault) valid head_is none refl)
   ended (Failed fault) head result valid head_is h (first, e, is) = subst Ended (sym e) (first_behind head (Some fault) (Some first) valid head_is h is)
 

@@ -1,20 +1,12 @@
 -- The part of a sequence's features under a query, and why there is none. Nothing here knows of blocks.
 use Rattle.std.specs.Prelude.{ℕ, List, None}
-use Rattle.at_text.specs.declared.faults.Fault.{Fault}
 use Rattle.at_fixed.specs.declared.rounding.Coords.{Coords}
 use Rattle.at_query.specs.declared.query.queries.Query.{Query}
 use Rattle.at_query.specs.declared.features.Feature.{Feature}
 use Rattle.at_query.specs.declared.answer.parts.Part.{Part}
 use Rattle.at_query.specs.declared.answer.parts.Part.TheVariants.{Entries}
 use Rattle.at_query.specs.Parts.{IsPart, AreProper}
-use Rattle.at_seq.specs.declared.ends.SeqEnd.{SeqEnd}
-use Rattle.at_seq.specs.declared.ends.SeqEnd.TheVariants.{Found, Memory}
 use Rattle.at_seq.specs.Sequences.{HasSeqFault, AreSeqFeatures}
-
--- a fact of the fault that was found; want of memory has no cause in the file
-abbrev pub IfFound : SeqEnd → (Fault → Type 0) → Type 0
-IfFound (Found fault) P = P fault
-IfFound Memory P = Unit {0}
 
 -- the sequence has no fault, and the part is that of its features
 pub record IsSeqPart (digits : ℕ) (how : Coords) (query : Query) (bytes : List ℕ) (part : Part) : Type 0 where

@@ -3,22 +3,22 @@
 ghost use Rattle.std.specs.Prelude.{◌≡◌, ◌+◌, ◌≤◌, ◌^◌, length, MatchResult, IfOk, None, Some, drop};
 ghost use Rattle.at_text.specs.Faults.{first_fault as first_one, first_of};
 ghost use Rattle.at_text.specs.Texts.{utf8_fault as encoding_fault, base_of as text_begin};
+ghost use Rattle.at_text.specs.Refusals.{IfFound};
 ghost use Rattle.at_blocks.specs.Encodings.{IsValidIn};
 ghost use Rattle.at_seq.specs.Records.{records_of};
 ghost use Rattle.at_seq.specs.Sequences.{stray_faults, HasSeqFault};
-ghost use Rattle.at_seq.specs.Answers.{IfFound, IsSeqPart};
+ghost use Rattle.at_seq.specs.Answers.{IsSeqPart};
 ghost use Rattle.at_seq.specs.Gathering.{IsGathered};
 ghost use Rattle.at_seq.specs.Fragments.{HoldsText, HoldsParted, HoldsFragment};
 ghost use Rattle.at_seq.specs.Ends.{BecomesPart, IsEndOf};
 
-use crate::ends::SeqEnd;
 use crate::fragments::{PartedText, SeqFragment, SeqRead, SeqText};
 use crate::records::add_fragment;
 use crate::searches::spaces_len;
 use crate::seq_files::SeqFile;
 use at_blocks::is_valid_around;
 use at_query::{Accumulator, Gathered, Part};
-use at_text::{Fault, FaultKind, Memory, Span, base_of, first_fault, utf8_fault};
+use at_text::{Fault, FaultKind, Memory, Refusal, Span, base_of, first_fault, utf8_fault};
 
 /// Syntax at the first byte of a text that is no white space, where there is one.
 fn stray_fault(text: &[u8], at: u32) -> Option<Fault>
@@ -44,25 +44,25 @@ fn first_with(head: Option<Fault>, fault: Fault) -> Fault
 }
 
 /// The part of the features of which this is kept.
-fn part_of_kept(kept: Accumulator) -> Result<Part, SeqEnd>
+fn part_of_kept(kept: Accumulator) -> Result<Part, Refusal>
     ensures { BecomesPart kept result }
 {
     match kept.into_part() {
         Ok(part) => Ok(part),
-        Err(_) => Err(SeqEnd::Memory),
+        Err(_) => Err(Refusal::Memory),
     }
 }
 
 /// The part, or the first fault, from that of what stands before the first separator and from what is kept of the
 /// records.
-fn end_of(head: Option<Fault>, kept: Gathered) -> Result<Part, SeqEnd>
+fn end_of(head: Option<Fault>, kept: Gathered) -> Result<Part, Refusal>
     ensures { IsEndOf kept head result }
 {
     match kept {
-        Gathered::Failed(fault) => Err(SeqEnd::Found(first_with(head, fault))),
+        Gathered::Failed(fault) => Err(Refusal::Found(first_with(head, fault))),
         Gathered::Kept(kept) => match head {
             None => part_of_kept(kept),
-            Some(fault) => Err(SeqEnd::Found(fault)),
+            Some(fault) => Err(Refusal::Found(fault)),
         },
     }
 }
@@ -82,7 +82,7 @@ fn all_records(file: &SeqFile<'_>, parted: PartedText) -> Result<Gathered, Memor
 }
 
 /// The end of a file whose encoding has no fault.
-fn text_end(file: &SeqFile<'_>, text: SeqText) -> Result<Part, SeqEnd>
+fn text_end(file: &SeqFile<'_>, text: SeqText) -> Result<Part, Refusal>
     requires valid { encoding_fault file.now.bytes.now ≡ None }
     requires whole { HoldsText file.now.algebra.now file.now.bytes.now (text_begin file.now.bytes.now) (length file.now.bytes.now) text }
     ensures { MatchResult result (IsSeqPart file.now.algebra.now.digits file.now.algebra.now.how file.now.algebra.now.query file.now.bytes.now)
@@ -101,7 +101,7 @@ fn text_end(file: &SeqFile<'_>, text: SeqText) -> Result<Part, SeqEnd>
             let head = stray_fault(&file.bytes[base as usize..parted.first as usize], base);
             match all_records(file, parted) {
                 Ok(kept) => end_of(head, kept),
-                Err(_) => Err(SeqEnd::Memory),
+                Err(_) => Err(Refusal::Memory),
             }
         }
     }
@@ -125,15 +125,15 @@ fn fault_of_encoding(bytes: &[u8], valid: Span) -> Option<Fault>
 ///
 /// # Errors
 /// `Found` is the sequence's first fault, exactly where it has one. `Memory` comes where an allocation was refused.
-pub fn finish_spans(file: &SeqFile<'_>, whole: SeqFragment) -> Result<Part, SeqEnd>
+pub fn finish_spans(file: &SeqFile<'_>, whole: SeqFragment) -> Result<Part, Refusal>
     requires whole { HoldsFragment file.now.algebra.now file.now.bytes.now (text_begin file.now.bytes.now) (length file.now.bytes.now) whole }
     ensures { MatchResult result (IsSeqPart file.now.algebra.now.digits file.now.algebra.now.how file.now.algebra.now.query file.now.bytes.now)
         (λ end. IfFound end (λ fault. HasSeqFault file.now.algebra.now.digits file.now.algebra.now.how file.now.bytes.now (Some fault))) }
 {
     match whole {
-        SeqFragment::Lost => Err(SeqEnd::Memory),
+        SeqFragment::Lost => Err(Refusal::Memory),
         SeqFragment::Read(SeqRead { text, valid }) => match fault_of_encoding(file.bytes, valid) {
-            Some(fault) => Err(SeqEnd::Found(fault)),
+            Some(fault) => Err(Refusal::Found(fault)),
             None => text_end(file, text),
         },
     }

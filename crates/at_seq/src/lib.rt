@@ -15,7 +15,6 @@
 //! ```
 #![tactic(auto)]
 
-mod ends;
 mod finishing;
 mod fragments;
 mod readers;
@@ -24,5 +23,4 @@ mod searches;
 mod seq_files;
 mod sequences;
 
-pub use ends::SeqEnd;
-pub use sequences::{part_of_whole, part_seq};
+pub use sequences::{SeqEnd, part_of_whole, part_seq};

@@ -3,19 +3,19 @@
 ghost use Rattle.std.specs.Prelude.{◌≡◌, ◌+◌, ◌≤◌, ◌^◌, length, MatchResult, Some};
 ghost use Rattle.at_text.specs.Spans.{StandsAt};
 ghost use Rattle.at_text.specs.Texts.{base_of as text_begin};
+ghost use Rattle.at_text.specs.Refusals.{IfFound};
 ghost use Rattle.at_query.specs.Ranges.{IsQueryInRange};
 ghost use Rattle.at_seq.specs.Sequences.{HasSeqFault};
-ghost use Rattle.at_seq.specs.Answers.{IfFound, IsSeqPart};
+ghost use Rattle.at_seq.specs.Answers.{IsSeqPart};
 ghost use Rattle.at_seq.specs.Fragments.{SeqAsks, StandsInFile};
 
-use crate::ends::SeqEnd;
 use crate::finishing::finish_spans;
 use crate::fragments::{SeqFragment, merge_spans, run_span};
 use crate::seq_files::SeqFile;
 use at_fixed::Coords;
 use at_geojson::GeoAlgebra;
 use at_query::{Part, Query};
-use at_text::{Pieces, Span};
+use at_text::{Pieces, Refusal, Span};
 use std::alloc::Global;
 use std::marker::Model;
 
@@ -52,7 +52,7 @@ impl<'a> SeqReader<'a> {
     ///
     /// # Errors
     /// `Found` is the sequence's first fault, exactly where it has one. `Memory` comes where an allocation was refused.
-    pub fn finish_pieces(&self, alloc: Global, whole: SeqFragment) -> Result<Part, SeqEnd>
+    pub fn finish_pieces(&self, alloc: Global, whole: SeqFragment) -> Result<Part, Refusal>
         requires whole { StandsAt (StandsInFile self.now) self.now.bytes (text_begin self.now.bytes)
             (length self.now.bytes) whole }
         ensures { MatchResult result (IsSeqPart self.now.asked.digits self.now.asked.how self.now.asked.query

@@ -15,10 +15,10 @@ ghost use Rattle.at_seq.specs.Gathering.{IsGathered, AddsRecords, HasRecordPart,
 
 use crate::searches::{separator_behind, separator_place, spaces_len};
 use crate::seq_files::SeqFile;
-use at_geojson::{FeatureFront, GeoAlgebra, GeoAtom, RootEnd, feature_front, root_part};
+use at_geojson::{FeatureFront, GeoAlgebra, GeoAtom, feature_front, root_part};
 use at_nest::{Algebra, Attempt, Fragment, NestEnd, finish_span, run_block};
 use at_query::{Accumulator, Gathered, Part, join_into};
-use at_text::{Fault, FaultKind, Memory, Span};
+use at_text::{Fault, FaultKind, Memory, Refusal, Span};
 use std::alloc::Global;
 
 /// Puts a record behind those before it, by its part or its first fault.
@@ -36,13 +36,13 @@ fn add_part(gathered: &mut Gathered, part: Result<Part, Fault>) -> Result<(), Me
 }
 
 /// The part of a text, or its first fault, from what it ends in.
-fn part_of_root(end: Result<Part, RootEnd>) -> Result<Result<Part, Fault>, Memory>
+fn part_of_root(end: Result<Part, Refusal>) -> Result<Result<Part, Fault>, Memory>
     ensures { IfOk result (λ part. end ≡ found_end part) }
 {
     match end {
         Ok(part) => Ok(Ok(part)),
-        Err(RootEnd::Found(fault)) => Ok(Err(fault)),
-        Err(RootEnd::Memory) => Err(Memory),
+        Err(Refusal::Found(fault)) => Ok(Err(fault)),
+        Err(Refusal::Memory) => Err(Memory),
     }
 }
 
@@ -121,8 +121,7 @@ impl Trials {
 /// The value is read from all that is ahead, which begins with the record, so that numbers at the record's end are looked
 /// at as many bytes at once as all others. No clause says where it is: what is left out is read as any span of JSON.
 fn atom_at_once(
-    alloc: Global,
-    algebra: &GeoAlgebra,
+    file: &SeqFile<'_>,
     text: &[u8],
     ahead: &[u8],
     at: u32,
@@ -134,10 +133,13 @@ fn atom_at_once(
     requires spaces { IsFront is_space text.now spaces }
     requires some { spaces < length text.now }
     ensures { IfOk result (λ found.
-        IfSome found (λ atom. Answers (IsGeoAtom algebra.now) at text.now
+        IfSome found (λ atom. Answers (IsGeoAtom file.now.algebra.now) at text.now
         (Ok atom))) }
 {
-    match algebra.value(alloc, &ahead[spaces..], at + spaces as u32)? {
+    match file
+        .algebra
+        .value(file.alloc, &ahead[spaces..], at + spaces as u32)?
+    {
         Attempt::Whole { len, atom } => {
             let value = &text[spaces..];
             if len as usize > value.len() {
@@ -171,14 +173,7 @@ fn span_answer(
     let text = &file.bytes[span.from as usize..span.to as usize];
     if trials.is_next() {
         let ahead = &file.bytes[span.from as usize..];
-        if let Some(atom) = atom_at_once(
-            file.alloc,
-            file.algebra,
-            text,
-            ahead,
-            span.from,
-            spaces,
-        )? {
+        if let Some(atom) = atom_at_once(file, text, ahead, span.from, spaces)? {
             return Ok(atom);
         }
         trials.failed();

@@ -2,13 +2,13 @@
 
 ghost use Rattle.std.specs.Prelude.{◌≡◌, ◌-◌, ◌<◌, ◌≤◌, ◌^◌, length, MatchResult, IfOk, None, Some, Err};
 ghost use Rattle.at_text.specs.Texts.{base_of as text_begin};
+ghost use Rattle.at_text.specs.Refusals.{IfFound};
 ghost use Rattle.at_query.specs.Ranges.{IsQueryInRange};
 ghost use Rattle.at_blocks.specs.Places.{first_place, last_place};
 ghost use Rattle.at_blocks.specs.Blocks.{SomeGivenUp};
 ghost use Rattle.at_seq.specs.Sequences.{HasSeqFault, TheSeqFault};
-ghost use Rattle.at_seq.specs.Answers.{IfFound, IsSeqPart, HasProperEntries};
+ghost use Rattle.at_seq.specs.Answers.{IsSeqPart, HasProperEntries};
 
-use crate::ends::SeqEnd;
 use crate::finishing::finish_spans;
 use crate::fragments::run_span;
 use crate::readers::SeqReader;
@@ -18,9 +18,12 @@ use at_crew::Gate;
 use at_fixed::Coords;
 use at_geojson::GeoAlgebra;
 use at_query::{Part, Query};
-use at_text::{Span, base_of};
+use at_text::{Refusal, Span, base_of};
 use std::alloc::Global;
 use std::thread::Threads;
+
+/// Why a sequence has no part: its first fault, or want of memory.
+pub type SeqEnd = Refusal;
 
 /// The part of a sequence's features under a query, or the sequence's first fault.
 ///
@@ -55,15 +58,11 @@ pub fn part_seq<G: Gate, R: Threads + Sync>(
 
     // the part of a join can be joined
     ensures proper { IfOk result HasProperEntries }
-    ensures given_up { SomeGivenUp (G.given_up gate.now) 0 (length cuts.now - 1) → result ≡ Err SeqEnd.Memory }
+    ensures given_up { SomeGivenUp (G.given_up gate.now) 0 (length cuts.now - 1) → result ≡ Err Refusal.Memory }
 {
-    let Ok(copy) = query.copy(alloc) else {
-        return Err(SeqEnd::Memory);
-    };
+    let copy = query.copy(alloc)?;
     let reader = SeqReader::new(bytes, copy, digits, how);
-    let Ok(whole) = run_file(rt, alloc, &reader, bytes, cuts, workers, gate) else {
-        return Err(SeqEnd::Memory);
-    };
+    let whole = run_file(rt, alloc, &reader, bytes, cuts, workers, gate)?;
     reader.finish_pieces(alloc, whole)
 }
 

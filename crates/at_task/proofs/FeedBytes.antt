@@ -2,6 +2,7 @@
 -- For `draw`, `take_chunk` and `poll`.
 use Rattle.std.proofs.Common.{◌≡◌, ℕ, List, [], ◌++◌, take, drop, Option, Some, None, IfSome, subst, sym, ap, ◌∙◌, refl}
 use Rattle.std.proofs.lemmas.List.{append_assoc, append-nil, take-append-drop}
+use Rattle.at_run.specs.Readers.{Asks}
 use Rattle.at_task.specs.FeedEnds.{AreFeedBytes}
 use Rattle.at_task.specs.Ranking.{KeepsBytes}
 
@@ -34,13 +35,18 @@ module _ (before taken more : List ℕ) (grown : taken ≡ before ++ more) where
       sym (append-nil taken) ∙ ap (λ w. taken ++ w) (sym empty) ∙ sym f
   end_bytes None left keeps none = (more, grown)
 
+-- what is said of all bytes later is said of them before
+pub said_before : (P : Asks → List ℕ → Type 0) (before taken : List ℕ) (rest left : Option (List ℕ)) {asks now : Asks} → now ≡ asks → ((more : List ℕ) × (taken ≡ before ++ more)) → KeepsBytes before rest taken left
+    → ((bytes : List ℕ) × AreFeedBytes taken left bytes × P now bytes) → (bytes : List ℕ) × AreFeedBytes before rest bytes × P asks bytes
+said_before P before taken rest left e (more, grown) keeps (bytes, are, h) = (bytes, same_bytes before taken more grown rest left keeps bytes are, subst (λ asks. P asks bytes) e h)
+
 -- there are bytes of a feed
 pub any_bytes : (taken : List ℕ) (rest : Option (List ℕ)) → (bytes : List ℕ) × AreFeedBytes taken rest bytes
 any_bytes taken None = (taken, ([], sym (append-nil taken)))
 any_bytes taken (Some rest) = (taken ++ rest, refl)
 
 -- such as begin with what was taken
-pub begun_bytes : (taken : List ℕ) (rest : Option (List ℕ)) → (behind : List ℕ) × AreFeedBytes taken rest (taken ++ behind)
+begun_bytes : (taken : List ℕ) (rest : Option (List ℕ)) → (behind : List ℕ) × AreFeedBytes taken rest (taken ++ behind)
 begun_bytes taken None = ([], ([], refl))
 begun_bytes taken (Some told) = (told, refl)
 
@@ -48,3 +54,11 @@ begun_bytes taken (Some told) = (told, refl)
 pub emptied_bytes : (taken : List ℕ) (rest : Option (List ℕ)) → IfSome rest (λ told. told ≡ []) → AreFeedBytes taken rest taken
 emptied_bytes taken None none = ([], sym (append-nil taken))
 emptied_bytes taken (Some told) none = sym (append-nil taken) ∙ ap (λ w. taken ++ w) (sym none)
+
+-- two feeds have bytes that begin with what was taken, and what holds of all bytes of each holds of these
+pub both_begun : (a b : List ℕ) (r s : Option (List ℕ)) (A B : List ℕ → Type 0) → ((bytes : List ℕ) → AreFeedBytes a r bytes → A bytes) → ((bytes : List ℕ) → AreFeedBytes b s bytes → B bytes)
+    → (behind : List ℕ) × (other : List ℕ) × A (a ++ behind) × B (b ++ other)
+both_begun a b r s A B of_a of_b =
+    let (behind, are) = begun_bytes a r in
+    let (other, also) = begun_bytes b s in
+    (behind, other, of_a (a ++ behind) are, of_b (b ++ other) also)

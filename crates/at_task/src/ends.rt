@@ -1,7 +1,6 @@
 //! Why a feed has no part, and two feeds no join.
 
-use at_run::RunFault;
-use at_text::Fault;
+use at_text::{Fault, Refusal};
 
 /// Why a feed gives no part, or has no answer.
 #[derive(Clone, Copy, Debug, PartialEq, Eq)]
@@ -34,12 +33,12 @@ impl FeedEnd {
     ghost use Rattle.at_task.specs.FileEnds.{file_end};
 
     /// Why a feed gives no part, where this is why a file of its bytes has none.
-    pub(crate) fn of_file(end: RunFault) -> FeedEnd
+    pub(crate) fn of_file(end: Refusal) -> FeedEnd
         ensures { result ≡ file_end end }
     {
         match end {
-            RunFault::Found(fault) => FeedEnd::Found(fault),
-            RunFault::Memory => FeedEnd::Memory,
+            Refusal::Found(fault) => FeedEnd::Found(fault),
+            Refusal::Memory => FeedEnd::Memory,
         }
     }
 }

@@ -22,6 +22,7 @@ mod limits;
 mod memory;
 mod pieces;
 mod prefixes;
+mod refusals;
 mod texts;
 
 pub use classes::{is_digit, is_run, is_space};
@@ -32,4 +33,5 @@ pub use limits::{MOST_BLOCKS, MOST_BYTES};
 pub use memory::Memory;
 pub use pieces::Pieces;
 pub use prefixes::Taken;
+pub use refusals::Refusal;
 pub use texts::{Bytes, Span, Word};

@@ -6,10 +6,10 @@ use Rattle.std.proofs.Math.Seq.{take-length}
 use Rattle.std.proofs.lemmas.List.{append_cancel_left, get_or_past}
 use Rattle.at_wkt.proofs.Names.{Fault, first_fault, first_of, IsSyntaxFault, stop_fault, Coords, Shape, Open, Prefix, Halt, Gathered, empty_shape, Geometry, SpellsGeometry, IsLineOf, WktLine, is_blank, IsPrefixOf, IsPrefixFault, SpellsLine, HasFirstLineFault, unspelled, faulty, HasLineShape, between, IfStopped, next, Spelt, Stuck, SkipsBlanks, Meaning, joined, no_meaning, meaning_of, Expected, Gathers, gathered_shape}
 use Rattle.std.specs.Result.{MatchResult}
-use Rattle.at_wkt.specs.declared.answers.LineFault.{LineFault}
-use Rattle.at_wkt.specs.declared.answers.LineFault.TheVariants.{Found}
+use Rattle.at_text.specs.declared.refusals.Refusal.{Refusal}
+use Rattle.at_text.specs.declared.refusals.Refusal.TheVariants.{Found}
 use Rattle.at_text.specs.declared.halts.Halt.TheVariants.{At, Memory as NoMemory}
-use Rattle.at_wkt.specs.Answers.{IfFound}
+use Rattle.at_text.specs.Refusals.{IfFound}
 use Rattle.at_wkt.specs.Readers.{refusal, kept_shape, line_answer, LineStops}
 use Rattle.at_fixed.proofs.DigitParts.{part-length, part-part}
 use Rattle.at_wkt.proofs.Leads.{part-more, part-cons, Ahead, ahead_stuck, same_or_less}
@@ -221,15 +221,15 @@ stopped_inside {Q} w (At n) f q = f n q
 stopped_inside {Q} w NoMemory f q = tt
 
 -- a halt is refused as its place or the want of memory is
-refused : (Q : ℕ → Type 0) (P : Fault → Type 0) (base : ℕ) (w : List ℕ) (halt : Halt) (answer : LineFault) → ((n : ℕ) → Q n → P (stop_fault base w n)) → answer ≡ refusal base w halt → IfStopped halt Q → IfFound answer P
-refused Q P base w (At n) answer f e h = let R : LineFault → Type 0 = λ z. IfFound z P in subst R (sym e) (f n h)
-refused Q P base w NoMemory answer f e h = let R : LineFault → Type 0 = λ z. IfFound z P in subst R (sym e) tt
+refused : (Q : ℕ → Type 0) (P : Fault → Type 0) (base : ℕ) (w : List ℕ) (halt : Halt) (answer : Refusal) → ((n : ℕ) → Q n → P (stop_fault base w n)) → answer ≡ refusal base w halt → IfStopped halt Q → IfFound answer P
+refused Q P base w (At n) answer f e h = let R : Refusal → Type 0 = λ z. IfFound z P in subst R (sym e) (f n h)
+refused Q P base w NoMemory answer f e h = let R : Refusal → Type 0 = λ z. IfFound z P in subst R (sym e) tt
 
-pub refused_prefix : (digits : ℕ) (how : Coords) (base : ℕ) (w : List ℕ) (halt : Halt) (answer : LineFault) → answer ≡ refusal base w halt
+pub refused_prefix : (digits : ℕ) (how : Coords) (base : ℕ) (w : List ℕ) (halt : Halt) (answer : Refusal) → answer ≡ refusal base w halt
     → IfStopped halt (Stuck (Awaited digits how zero) base w 0 Open) → IfFound answer (IsPrefixFault base w)
 refused_prefix digits how base w halt answer e h = refused (Stuck (Awaited digits how zero) base w 0 Open) (IsPrefixFault base w) base w halt answer (prefix_fault digits how base w) e h
 
-pub refused_line : (digits : ℕ) (how : Coords) (base : ℕ) (w : List ℕ) (halt : Halt) (answer : LineFault) → answer ≡ refusal base w halt
+pub refused_line : (digits : ℕ) (how : Coords) (base : ℕ) (w : List ℕ) (halt : Halt) (answer : Refusal) → answer ≡ refusal base w halt
     → IfStopped halt (LineStops base w) → IfFound answer (HasFirstLineFault digits how base w)
 refused_line digits how base w halt answer e h = refused (LineStops base w) (HasFirstLineFault digits how base w) base w halt answer (λ n stops. unspelled stops.fault) e h
 
@@ -251,10 +251,10 @@ module _ (nothing new : Gathered) (m : Meaning) (ep : nothing.points.items ≡ [
   pub line_gathered : (digits : ℕ) (how : Coords) (base : ℕ) (w : List ℕ) → SpellsLine digits how base w (first_of m.faults) m.shape → SpellsLine digits how base w new.fault (gathered_shape new)
   line_gathered digits how base w s = subst (λ z. SpellsLine digits how base w z (gathered_shape new)) (sym gathered_fault) (subst (SpellsLine digits how base w (first_of m.faults)) (sym all_gathered) s)
 
-  pub line_answers : (digits : ℕ) (how : Coords) (base : ℕ) (w : List ℕ) (answer : Result Shape LineFault) → SpellsLine digits how base w (first_of m.faults) m.shape → answer ≡ line_answer new
+  pub line_answers : (digits : ℕ) (how : Coords) (base : ℕ) (w : List ℕ) (answer : Result Shape Refusal) → SpellsLine digits how base w (first_of m.faults) m.shape → answer ≡ line_answer new
       → MatchResult answer (HasLineShape digits how base w) (λ e. IfFound e (HasFirstLineFault digits how base w))
   line_answers digits how base w answer s e =
-      let P : Result Shape LineFault → Type 0 = λ z. MatchResult z (HasLineShape digits how base w) (λ r. IfFound r (HasFirstLineFault digits how base w)) in
+      let P : Result Shape Refusal → Type 0 = λ z. MatchResult z (HasLineShape digits how base w) (λ r. IfFound r (HasFirstLineFault digits how base w)) in
       subst P (sym e) (go new.fault (line_gathered digits how base w s)) where
         go : (f : Option Fault) → SpellsLine digits how base w f (gathered_shape new) → MatchResult (elim f [ None ↦ Ok (gathered_shape new) | Some fault ↦ Err (Found fault) ]) (HasLineShape digits how base w) (λ r. IfFound r (HasFirstLineFault digits how base w))
         go None s = s

@@ -6,16 +6,9 @@ use Rattle.at_text.specs.Prefix.{LongestViable}
 use Rattle.at_text.specs.Syntax.{IsSyntaxFault, stop_fault}
 use Rattle.at_fixed.specs.declared.rounding.Coords.{Coords}
 use Rattle.at_geom.specs.declared.shapes.Shape.{Shape}
-use Rattle.at_wkt.specs.declared.answers.LineFault.{LineFault}
-use Rattle.at_wkt.specs.declared.answers.LineFault.TheVariants.{Found, Memory}
 use Rattle.at_wkt.specs.declared.answers.Prefix.{Prefix}
 use Rattle.at_wkt.specs.Geometry.{Geometry, SpellsGeometry, IsLineOf, WktGeometry, WktLine}
 use Rattle.at_wkt.specs.Meaning.{shape_of, faults_of, empty_shape}
-
--- a fact of the fault that was found; want of memory has no cause in the text
-abbrev pub IfFound : LineFault → (Fault → Type 0) → Type 0
-IfFound (Found fault) P = P fault
-IfFound Memory P = Unit {0}
 
 module _ (digits : ℕ) (how : Coords) where
   -- the line, which begins at the offset, spells a geometry of this first fault and shape, and no other

@@ -17,8 +17,8 @@ use Rattle.at_wkt.specs.declared.line.kinds.Kind.TheVariants.{Point, LineString,
 use Rattle.at_wkt.specs.declared.line.kinds.Kind.TheVariants.{MultiPolygon, GeometryCollection}
 use Rattle.at_wkt.specs.declared.line.kinds.Head.{Head}
 use Rattle.at_text.specs.Syntax.{IsSyntaxFault, stop_fault}
-use Rattle.at_wkt.specs.declared.answers.LineFault.{LineFault}
-use Rattle.at_wkt.specs.declared.answers.LineFault.TheVariants.{Found, Memory as NoMemory}
+use Rattle.at_text.specs.declared.refusals.Refusal.{Refusal}
+use Rattle.at_text.specs.declared.refusals.Refusal.TheVariants.{Found, Memory as NoMemory}
 use Rattle.at_wkt.specs.Answers.{SpellsLine}
 use Rattle.at_text.specs.declared.halts.Halt.{Halt}
 use Rattle.at_text.specs.declared.halts.Halt.TheVariants.{At, Memory}
@@ -542,7 +542,7 @@ abbrev pub opens_at : List ℕ → Head → Bool
 opens_at w head = elim head.kind [ GeometryCollection ↦ next w head.behind.at == 0x28 | _ ↦ false ]
 
 -- the refusal of a text where reading it stopped
-abbrev pub refusal : ℕ → List ℕ → Halt → LineFault
+abbrev pub refusal : ℕ → List ℕ → Halt → Refusal
 refusal base w (At n) = Found (stop_fault base w n)
 refusal base w Memory = NoMemory
 
@@ -566,7 +566,7 @@ pub record LineStops (base : ℕ) (w : List ℕ) (n : ℕ) : Type 0 where
   pub fault : IsSyntaxFault (WktLine base) base w (stop_fault base w n)
 
 -- a line's first fault, or its shape
-abbrev pub line_answer : Gathered → Result Shape LineFault
+abbrev pub line_answer : Gathered → Result Shape Refusal
 line_answer g = elim g.fault [ None ↦ Ok (gathered_shape g) | Some fault ↦ Err (Found fault) ]
 
 -- the shape, and where there is a fault the empty one

@@ -1,27 +1,10 @@
 //! What a reader of a text answers: a refusal, or the geometry that begins the text.
 
-ghost use Rattle.std.specs.Prelude.{◌≡◌};
-ghost use Rattle.at_wkt.specs.declared.answers.LineFault.TheVariants.{Memory as NoMemory};
-
 use at_geom::Shape;
-use at_text::{Fault, Memory};
+use at_text::{Fault, Refusal};
 
-/// Why a line, a geometry or a file is refused.
-#[derive(Clone, Copy, Debug, PartialEq, Eq)]
-pub enum LineFault {
-    /// The first fault of what was read, at its offset in the file.
-    Found(Fault),
-    /// An allocation was refused.
-    Memory,
-}
-
-impl From<Memory> for LineFault {
-    ghost from_gives = { λ refused fault. fault ≡ NoMemory };
-
-    fn from(_refused: Memory) -> LineFault {
-        LineFault::Memory
-    }
-}
+/// Why a line or a geometry is refused: its first fault, or want of memory.
+pub type LineFault = Refusal;
 
 /// The geometry that begins a text.
 #[derive(Drop)]

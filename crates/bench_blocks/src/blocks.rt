@@ -6,7 +6,7 @@ ghost use Rattle.at_text.specs.Spans.{StandsAt};
 ghost use Rattle.at_blocks.specs.Places.{first_place, last_place};
 ghost use Rattle.bench_blocks.specs.Fragments.{AreFragments};
 
-use at_text::Pieces;
+use at_text::{Memory, Pieces};
 use rayon::prelude::*;
 use std::alloc::{AllocError, Global};
 use std::thread::Threads;
@@ -80,7 +80,7 @@ pub fn run_by_rayon<P: Pieces, R: Threads + Sync>(
     reader: &P,
     bytes: &[u8],
     places: &[u32],
-) -> Result<P::Fragment, AllocError>
+) -> Result<P::Fragment, Memory>
     requires short { length bytes.now ≤ 2 ^ 28 }
     requires order { IsNonDecreasing places.now }
     requires within { last_place places.now ≤ length bytes.now }

@@ -3,28 +3,22 @@
 //! `rayon` says how many threads there are: two for each processor.
 #![tactic(auto)]
 
-ghost use Rattle.std.specs.Prelude.{◌≡◌, ◌≢◌, ◌≤◌, ◌^◌, length, MatchBool, MatchResult, Some};
+ghost use Rattle.std.specs.Prelude.{◌≡◌, ◌≢◌, ◌≤◌, ◌^◌, length, MatchBool};
 ghost use Rattle.at_query.specs.Ranges.{IsQueryInRange};
-ghost use Rattle.at_run.specs.Files.{HasFileFaultIn};
-ghost use Rattle.at_run.specs.Answers.{IfFound, IsFileAnswer};
 
 mod answers;
 mod blocks;
 
-use answers::answer;
-use at_blocks::Cuts;
+use answers::{DIGITS, answer};
 use at_fixed::Coords;
 use at_io::{DiskShelf, ReadError, read_whole};
-use at_query::{Answer, Query, QueryEnd, Verb, answer_text, read_query};
+use at_query::{Query, QueryEnd, Verb, answer_text, read_query};
 use at_run::{Form, RunFault};
-use at_text::{MOST_BYTES, Memory, base_of};
+use at_text::{MOST_BYTES, Memory};
 use std::alloc::Global;
 use std::io;
 use std::rt::{Env, Files};
 use std::thread::Threads;
-
-/// The decimal digits of a coordinate: a unit is 10^-7.
-const DIGITS: u8 = 7;
 
 /// The form of a file of that name.
 fn form_of(name: &str) -> Form {
@@ -49,28 +43,6 @@ fn is_join(verb: Verb) -> bool
     }
 }
 
-/// The answer over a file that is cut evenly into so many blocks.
-fn answer_in_blocks<R: Threads + Sync>(
-    rt: &R,
-    alloc: Global,
-    bytes: &[u8],
-    form: Form,
-    query: Query,
-    blocks: u32,
-) -> Result<Answer, RunFault>
-    requires short { length bytes.now ≤ 2 ^ 28 }
-    requires blocks { (1 ≤ blocks) × (blocks ≤ 4096) }
-    requires no_join { query.verb ≢ Verb.Join }
-    requires in_range { IsQueryInRange query }
-    ensures { MatchResult result (IsFileAnswer form DIGITS Coords.Round query bytes.now)
-        (λ end. IfFound end (λ fault. HasFileFaultIn form DIGITS Coords.Round bytes.now (Some fault))) }
-{
-    let Ok(cuts) = Cuts::even(alloc, base_of(bytes), bytes.len() as u32, blocks) else {
-        return Err(RunFault::Memory);
-    };
-    answer(rt, alloc, bytes, form, &cuts, query, DIGITS, Coords::Round)
-}
-
 /// The printed answer to a query over the bytes of the file of that name, or the line of its first fault.
 fn told_of_bytes<R: Threads + Sync>(
     rt: &R,
@@ -85,7 +57,7 @@ fn told_of_bytes<R: Threads + Sync>(
     requires no_join { query.verb ≢ Verb.Join }
     requires in_range { IsQueryInRange query }
 {
-    match answer_in_blocks(rt, alloc, bytes, form_of(name), query, blocks) {
+    match answer(rt, alloc, bytes, form_of(name), query, blocks) {
         Ok(answer) => answer_text(alloc, &answer, DIGITS),
         Err(RunFault::Found(fault)) => {
             let kind = fault.kind;

@@ -3,9 +3,10 @@
 ghost use Rattle.std.specs.Prelude.{◌≡◌, ◌≢◌, ◌+◌, ◌≤◌, ◌^◌, List, ℕ, length, Some, None, IsSome, IsOk, IfOk, MatchResult};
 ghost use Rattle.at_query.specs.declared.query.queries.Verb.{Verb};
 ghost use Rattle.at_query.specs.Ranges.{IsQueryInRange};
-ghost use Rattle.at_run.specs.Answers.{IfFound, IsFileAnswer, IsJoinAnswer, IsJoinFault};
+ghost use Rattle.at_run.specs.Answers.{IsFileAnswer, IsJoinAnswer, IsJoinFault};
 ghost use Rattle.at_blocks.specs.Places.{IsLeastCount, first_place, last_place};
 ghost use Rattle.at_text.specs.Texts.{base_of as text_begin};
+ghost use Rattle.at_text.specs.Refusals.{IfFound};
 ghost use Rattle.at_run.specs.Files.{HasFileFaultIn};
 ghost use Rattle.at_cli.specs.LineOf.{form_of as form_told, KeepsLimits};
 ghost use Rattle.at_cli.specs.Gates.{PassesGate};
@@ -21,8 +22,8 @@ use crate::words::line::Line;
 use at_blocks::Cuts;
 use at_crew::Gate;
 use at_query::{Answer, Query, answer_text};
-use at_run::{Form, JoinFault, RunFault, answer, answer_join};
-use at_text::{Memory, base_of};
+use at_run::{Form, JoinFault, answer, answer_join};
+use at_text::{Memory, Refusal, base_of};
 use std::alloc::{AllocGlobal, Global};
 use std::random::RandomSource;
 use std::sync::Wait;
@@ -48,29 +49,34 @@ fn cuts_of(alloc: Global, bytes: &[u8], form: Form, blocks: u32) -> Result<Cuts,
 fn answer_in_blocks<G: Gate, R: Threads + Sync>(
     rt: &R,
     alloc: Global,
-    line: &Line,
-    query: &Query,
-    bytes: &[u8],
+    file: &OneFile,
     gate: &G,
-) -> Result<Answer, RunFault>
-    requires limit { length bytes.now ≤ 2 ^ 28 }
-    requires line { KeepsLimits line.now }
-    requires in_range { IsQueryInRange query.now }
-    requires verb { query.now.verb ≢ Verb.Join }
-    requires second { line.now.second ≡ None }
-    ensures answer { MatchResult result (IsFileAnswer (form_told line.now line.now.first) line.now.digits line.now.how
-        query.now bytes.now)
-        (λ end. IfFound end (λ fault. HasFileFaultIn (form_told line.now line.now.first) line.now.digits line.now.how
-        bytes.now (Some fault))) }
-    ensures passes { IfOk result (λ _. PassesGate (G.given_up gate.now) line.now) }
+) -> Result<Answer, Refusal>
+    requires { IsOneReady file.now }
+    ensures answer { MatchResult result (IsFileAnswer (form_told file.now.line file.now.line.first) file.now.line.digits
+        file.now.line.how file.now.query file.now.bytes.items)
+        (λ end. IfFound end (λ fault. HasFileFaultIn (form_told file.now.line file.now.line.first) file.now.line.digits
+        file.now.line.how file.now.bytes.items (Some fault))) }
+    ensures passes { IfOk result (λ _. PassesGate (G.given_up gate.now) file.now.line) }
 {
+    let line = &file.line;
+    let bytes = file.bytes.as_slice();
     let form = form_of(line, line.first.as_str());
     let Ok(cuts) = cuts_of(alloc, bytes, form, line.blocks) else {
-        return Err(RunFault::Memory);
+        return Err(Refusal::Memory);
     };
     let (digits, how, workers) = (line.digits, line.how, line.workers);
     answer(
-        rt, alloc, bytes, form, &cuts, query, digits, how, workers, gate,
+        rt,
+        alloc,
+        bytes,
+        form,
+        &cuts,
+        &file.query,
+        digits,
+        how,
+        workers,
+        gate,
     )
 }
 
@@ -82,7 +88,7 @@ fn answer_in_chunks<R: Wait + RandomSource + AllocGlobal>(
     query: &Query,
     bytes: Vec<u8>,
     size: u32,
-) -> Result<Answer, RunFault>
+) -> Result<Answer, Refusal>
     requires limit { length bytes.items ≤ 2 ^ 28 }
     requires line { KeepsLimits line.now }
     requires in_range { IsQueryInRange query.now }
@@ -102,25 +108,19 @@ fn answer_in_chunks<R: Wait + RandomSource + AllocGlobal>(
 fn join_in_blocks<G: Gate, R: Threads + Sync>(
     rt: &R,
     alloc: Global,
-    line: &Line,
-    query: &Query,
-    a: &[u8],
-    b: &[u8],
+    files: &TwoFiles,
     gate: &G,
 ) -> Result<Answer, JoinFault>
-    requires limit_a { length a.now ≤ 2 ^ 28 }
-    requires limit_b { length b.now ≤ 2 ^ 28 }
-    requires line { KeepsLimits line.now }
-    requires second { IsSome line.now.second }
-    requires in_range { IsQueryInRange query.now }
-    requires verb { query.now.verb ≡ Verb.Join }
-    ensures answer { (second : List ℕ) → line.now.second ≡ Some second
-        → MatchResult result (IsJoinAnswer (form_told line.now line.now.first) (form_told line.now second) line.now.digits
-        line.now.how query.now a.now b.now)
-        (IsJoinFault (form_told line.now line.now.first) (form_told line.now second) line.now.digits line.now.how
-        a.now b.now) }
-    ensures passes { IfOk result (λ _. PassesGate (G.given_up gate.now) line.now) }
+    requires { IsTwoReady files.now }
+    ensures answer { (second : List ℕ) → files.now.line.second ≡ Some second
+        → MatchResult result (IsJoinAnswer (form_told files.now.line files.now.line.first) (form_told files.now.line second)
+        files.now.line.digits files.now.line.how files.now.query files.now.first.items files.now.second.items)
+        (IsJoinFault (form_told files.now.line files.now.line.first) (form_told files.now.line second)
+        files.now.line.digits files.now.line.how files.now.first.items files.now.second.items) }
+    ensures passes { IfOk result (λ _. PassesGate (G.given_up gate.now) files.now.line) }
 {
+    let line = &files.line;
+    let (a, b) = (files.first.as_slice(), files.second.as_slice());
     let form_a = form_of(line, line.first.as_str());
     let form_b = form_of(line, second_text(line));
     let Ok(cuts_a) = cuts_of(alloc, a, form_a, line.blocks) else {
@@ -138,7 +138,7 @@ fn join_in_blocks<G: Gate, R: Threads + Sync>(
         form_b,
         &cuts_a,
         &cuts_b,
-        query,
+        &files.query,
         line.digits,
         line.how,
         line.workers,
@@ -191,15 +191,15 @@ fn end_of_text(alloc: Global, line: &Line, answer: &Answer) -> Ending
 }
 
 /// The end over one file: the text of the answer, or the file's fault.
-fn end_of_one(alloc: Global, line: Line, answer: Result<Answer, RunFault>) -> Ending
+fn end_of_one(alloc: Global, line: Line, answer: Result<Answer, Refusal>) -> Ending
     ensures end { IsEndOf line answer result }
     ensures late { IsLate result }
     ensures answered { status_of result ≡ 0 → IsOk answer }
 {
     match answer {
         Ok(answer) => end_of_text(alloc, &line, &answer),
-        Err(RunFault::Found(fault)) => Ending::Faulty(line.first, fault),
-        Err(RunFault::Memory) => Ending::NoMemory,
+        Err(Refusal::Found(fault)) => Ending::Faulty(line.first, fault),
+        Err(Refusal::Memory) => Ending::NoMemory,
     }
 }
 
@@ -218,51 +218,6 @@ fn end_of_two(alloc: Global, line: Line, answer: Result<Answer, JoinFault>) -> E
     }
 }
 
-/// The end over one file, which is read in the blocks that the words ask for.
-fn one_in_blocks<G: Gate, R: Threads + Sync>(
-    rt: &R,
-    alloc: Global,
-    file: OneFile,
-    gate: &G,
-) -> Ending
-    requires { IsOneReady file }
-    ensures end { EndsOne file result }
-    ensures passes { status_of result ≡ 0 → PassesGate (G.given_up gate.now) file.line }
-{
-    let OneFile { line, query, bytes } = file;
-    let answer = answer_in_blocks(rt, alloc, &line, &query, bytes.as_slice(), gate);
-    end_of_one(alloc, line, answer)
-}
-
-/// The end over two files, which are read in the blocks that the words ask for.
-fn two_in_blocks<G: Gate, R: Threads + Sync>(
-    rt: &R,
-    alloc: Global,
-    files: TwoFiles,
-    gate: &G,
-) -> Ending
-    requires { IsTwoReady files }
-    ensures end { EndsTwo files result }
-    ensures passes { status_of result ≡ 0 → PassesGate (G.given_up gate.now) files.line }
-{
-    let TwoFiles {
-        line,
-        query,
-        first,
-        second,
-    } = files;
-    let answer = join_in_blocks(
-        rt,
-        alloc,
-        &line,
-        &query,
-        first.as_slice(),
-        second.as_slice(),
-        gate,
-    );
-    end_of_two(alloc, line, answer)
-}
-
 /// The end over what is loaded, where files are read in the blocks that the words ask for. It joins threads, and takes
 /// nothing to wait by.
 pub fn end_in_blocks<G: Gate, R: Threads + Sync>(
@@ -277,8 +232,14 @@ pub fn end_in_blocks<G: Gate, R: Threads + Sync>(
 {
     match loaded {
         Loaded::Ended(end) => end,
-        Loaded::One(file) => one_in_blocks(rt, alloc, file, gate),
-        Loaded::Two(files) => two_in_blocks(rt, alloc, files, gate),
+        Loaded::One(file) => {
+            let answer = answer_in_blocks(rt, alloc, &file, gate);
+            end_of_one(alloc, file.line, answer)
+        }
+        Loaded::Two(files) => {
+            let answer = join_in_blocks(rt, alloc, &files, gate);
+            end_of_two(alloc, files.line, answer)
+        }
     }
 }
 

@@ -1,9 +1,10 @@
 //! Answers over a file's bytes that a future takes in chunks.
 
 ghost use Rattle.std.specs.Prelude.{◌≡◌, ◌≢◌, ◌<◌, ◌≤◌, ◌^◌, [], false, length, Some, IfOk, MatchResult};
+ghost use Rattle.at_text.specs.Refusals.{IfFound};
 ghost use Rattle.at_query.specs.Ranges.{IsQueryInRange};
 ghost use Rattle.at_run.specs.Files.{HasFileFaultIn};
-ghost use Rattle.at_run.specs.Answers.{IfFound, IsFileAnswer, IsJoinAnswer, IsJoinFault};
+ghost use Rattle.at_run.specs.Answers.{IsFileAnswer, IsJoinAnswer, IsJoinFault};
 ghost use Rattle.at_blocks.specs.Blocks.{NoneGivenUp};
 ghost use Rattle.at_task.specs.Feeds.{source_of, asks_of, taken_of, has_given};
 ghost use Rattle.at_task.specs.SlicedChunks.{rest_of};
@@ -13,9 +14,9 @@ ghost use Rattle.at_cli.specs.Forms.{AsksSo};
 use at_crew::Gate;
 use at_fixed::Coords;
 use at_query::{Answer, Query, Verb};
-use at_run::{Form, JoinFault, RunFault, of_all};
+use at_run::{Form, JoinFault, of_all};
 use at_task::{Feed, FeedEnd, JoinFeed, PairEnd, Sliced, run_feed, run_join_feed};
-use at_text::Memory;
+use at_text::{Memory, Refusal};
 use std::alloc::{AllocGlobal, Global};
 use std::random::RandomSource;
 use std::sync::Wait;
@@ -60,7 +61,7 @@ pub fn fed_answer<R: Wait + RandomSource + AllocGlobal>(
     digits: u8,
     how: Coords,
     size: u32,
-) -> Result<Answer, RunFault>
+) -> Result<Answer, Refusal>
     requires short { length bytes.items ≤ 2 ^ 28 }
     requires no_join { query.now.verb ≢ Verb.Join }
     requires in_range { IsQueryInRange query.now }
@@ -69,16 +70,16 @@ pub fn fed_answer<R: Wait + RandomSource + AllocGlobal>(
         (λ end. IfFound end (λ fault. HasFileFaultIn form digits how bytes.items (Some fault))) }
 {
     let Ok(copy) = query.copy(alloc) else {
-        return Err(RunFault::Memory);
+        return Err(Refusal::Memory);
     };
     let Ok(feed) = feed_of(alloc, bytes, form, copy, digits, how, size) else {
-        return Err(RunFault::Memory);
+        return Err(Refusal::Memory);
     };
     match run_feed(rt, feed) {
         Ok(answer) => Ok(answer),
-        Err(FeedEnd::Found(fault)) => Err(RunFault::Found(fault)),
+        Err(FeedEnd::Found(fault)) => Err(Refusal::Found(fault)),
         Err(FeedEnd::TooLarge) => unreachable!(),
-        Err(FeedEnd::Memory) => Err(RunFault::Memory),
+        Err(FeedEnd::Memory) => Err(Refusal::Memory),
     }
 }
 

@@ -12,25 +12,6 @@ use crate::made::made_file;
 use at_io::{ReadError, Shelf, read_whole};
 use std::alloc::Global;
 
-/// The bytes that the shelf has under a name that isn't a made file's.
-fn shelf_bytes<S: Shelf>(alloc: Global, shelf: &mut S, name: &str) -> Result<Vec<u8>, ReadError>
-    requires { made name.now ≡ false }
-    ensures bytes { IfOk result (λ bytes. IfSome (S.files shelf.old) (λ told. HasBytes told name.now bytes.items)) }
-    ensures size { IfOk result (λ bytes. length bytes.items ≤ 2 ^ 28) }
-    ensures failed { IsErrOf result ReadError.Failed → Rose (S.faults shelf.old) (S.faults shelf.new)
-        × (S.broken shelf.new ≡ S.begins shelf.new) }
-    ensures unbroken { IsErrOf result ReadError.Failed ⊎ (S.broken shelf.new ≡ S.broken shelf.old) }
-    ensures taken { IsErrOf result ReadError.TooLarge → S.taken shelf.old + (2 ^ 28 + 1) ≤ S.taken shelf.new }
-    ensures large { IsErrOf result ReadError.TooLarge
-        → IfSome (S.files shelf.old) (λ told. (bytes : List ℕ) × HasBytes told name.now bytes
-        × (2 ^ 28 < length bytes)) }
-    ensures asked { ShelfWasAsked S.Shelf (asked_name name.now) shelf.old shelf.new }
-    ensures same_files { S.files shelf.new ≡ S.files shelf.old }
-    ensures counted { S.faults shelf.old ≤ S.faults shelf.new }
-{
-    read_whole(alloc, shelf, name)
-}
-
 /// Whether the name is a made file's.
 fn is_made(name: &str) -> bool
     ensures { result ≡ made name.now }
@@ -83,5 +64,5 @@ pub fn named_bytes<S: Shelf>(alloc: Global, shelf: &mut S, name: &str) -> Result
     if is_made(name) {
         return made_bytes(alloc, name);
     }
-    shelf_bytes(alloc, shelf, name)
+    read_whole(alloc, shelf, name)
 }

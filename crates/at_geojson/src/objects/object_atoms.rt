@@ -33,38 +33,44 @@ pub fn new_roles(alloc: Global, role: Role, texts: TextPairs) -> Result<Box<Role
     Ok(Box::new(alloc, Roles { role, texts })?)
 }
 
-/// Nothing, to stand for a while where roles are taken out.
+/// Roles whose texts are still to be put in.
 #[inline(always)]
-fn taken_roles(alloc: Global) -> Roles {
+fn without_texts(alloc: Global, role: Role) -> Roles
+    ensures { result.role ≡ role }
+{
     Roles {
-        role: Role::Nothing,
+        role,
         texts: TextPairs::from_vec(Vec::new(alloc)),
     }
 }
 
-/// A feature at the offset, of its geometry and the texts of its properties. The geometry's memory serves on.
+/// The same in memory of their own.
+#[inline(always)]
+fn roles_without_texts(alloc: Global, role: Role) -> Result<Box<Roles>, Memory>
+    ensures { IfOk result (λ roles. roles.value.role ≡ role) }
+{
+    Ok(Box::new(alloc, without_texts(alloc, role))?)
+}
+
+/// A feature at the offset, of its geometry and the texts of its properties, without those kept. The geometry's memory
+/// serves on.
 fn feature_in_place(
     alloc: Global,
     algebra: &GeoAlgebra,
     at: u32,
     geometry: ObjectAtom,
     found: Result<TextPairs, Fault>,
-    texts: TextPairs,
 ) -> Result<Box<Roles>, Memory>
     requires { IsOwnRole algebra.now geometry.roles.value.role }
     ensures role { IfOk result
         (λ roles. IsFeatureOf algebra.now.query at (geometry_of_role geometry.at geometry.roles.value.role) found
         roles.value.role) }
-    ensures texts { IfOk result (λ roles. roles.value.texts ≡ texts) }
 {
     let mut roles = geometry.roles;
-    let taken = replace(&mut *roles, taken_roles(alloc));
+    let taken = replace(&mut *roles, without_texts(alloc, Role::Nothing));
     let shape = role_geometry(geometry.at, taken.role);
     let part = of_feature(alloc, algebra, at, shape, found)?;
-    *roles = Roles {
-        role: Role::Feature(part),
-        texts,
-    };
+    *roles = without_texts(alloc, Role::Feature(part));
     Ok(roles)
 }
 
@@ -75,16 +81,14 @@ fn bare_feature(
     at: u32,
     geometry: Option<GeoAtom>,
     found: Result<TextPairs, Fault>,
-    texts: TextPairs,
 ) -> Result<Box<Roles>, Memory>
     requires { IfOwnValue algebra.now geometry }
     ensures role { IfOk result (λ roles. IsFeatureOf algebra.now.query at (shape_of_feature geometry) found
         roles.value.role) }
-    ensures texts { IfOk result (λ roles. roles.value.texts ≡ texts) }
 {
     let shape = feature_shape(alloc, geometry);
     let part = of_feature(alloc, algebra, at, shape, found)?;
-    new_roles(alloc, Role::Feature(part), texts)
+    roles_without_texts(alloc, Role::Feature(part))
 }
 
 /// A feature at the offset, of its geometry and the texts of its properties.
@@ -94,16 +98,14 @@ fn feature_of(
     at: u32,
     geometry: Option<GeoAtom>,
     found: Result<TextPairs, Fault>,
-    texts: TextPairs,
 ) -> Result<Box<Roles>, Memory>
     requires { IfOwnValue algebra.now geometry }
     ensures role { IfOk result (λ roles. IsFeatureOf algebra.now.query at (shape_of_feature geometry) found
         roles.value.role) }
-    ensures texts { IfOk result (λ roles. roles.value.texts ≡ texts) }
 {
     match geometry {
-        Some(GeoAtom::Object(object)) => feature_in_place(alloc, algebra, at, object, found, texts),
-        other => bare_feature(alloc, algebra, at, other, found, texts),
+        Some(GeoAtom::Object(object)) => feature_in_place(alloc, algebra, at, object, found),
+        other => bare_feature(alloc, algebra, at, other, found),
     }
 }
 
@@ -113,16 +115,14 @@ fn feature_roles(
     algebra: &GeoAlgebra,
     at: u32,
     fields: &mut Fields,
-    texts: TextPairs,
 ) -> Result<Box<Roles>, Memory>
     requires { AreOwnFields algebra.now fields.old }
     ensures role { IfOk result (λ roles. IsRoleIn algebra.now.query at (Some Kind.Feature) fields.old
         roles.value.role) }
-    ensures texts { IfOk result (λ roles. roles.value.texts ≡ texts) }
 {
     let found = feature_texts(alloc, &fields.properties)?;
     let geometry = fields.geometry.take();
-    feature_of(alloc, algebra, at, geometry, found, texts)
+    feature_of(alloc, algebra, at, geometry, found)
 }
 
 /// A geometry of a kind with coordinates at the offset.
@@ -132,81 +132,58 @@ fn coordinates_roles(
     at: u32,
     kind: Kind,
     fields: &mut Fields,
-    texts: TextPairs,
 ) -> Result<Box<Roles>, Memory>
     requires { AreOwnFields algebra.now fields.old }
     ensures role { IfOk result (λ roles. roles.value.role
         ≡ Role.Geometry (coordinates_shape (needs_of algebra.now.query) at kind fields.old.coordinates)) }
-    ensures texts { IfOk result (λ roles. roles.value.texts ≡ texts) }
 {
     let needs = algebra.needs_shapes();
     let coordinates = fields.coordinates.take();
     let geometry = of_coordinates(alloc, needs, at, kind, coordinates)?;
-    new_roles(alloc, Role::Geometry(geometry), texts)
+    roles_without_texts(alloc, Role::Geometry(geometry))
 }
 
-/// What an object at the offset is by its kind, beside the texts for which the query asks.
+/// What an object at the offset is by its kind.
 fn roles_of(
     alloc: Global,
     algebra: &GeoAlgebra,
     at: u32,
     kind: Option<Kind>,
     fields: &mut Fields,
-    texts: TextPairs,
 ) -> Result<Box<Roles>, Memory>
     requires { AreOwnFields algebra.now fields.old }
     ensures role { IfOk result (λ roles. IsRoleIn algebra.now.query at kind fields.old roles.value.role) }
-    ensures texts { IfOk result (λ roles. roles.value.texts ≡ texts) }
 {
     match kind {
-        None => new_roles(alloc, Role::Nothing, texts),
+        None => roles_without_texts(alloc, Role::Nothing),
         Some(Kind::FeatureCollection) => {
             let features = fields.features.take();
             let found = of_features(alloc, algebra.query(), at, features);
-            new_roles(alloc, Role::Collection(found), texts)
+            roles_without_texts(alloc, Role::Collection(found))
         }
-        Some(Kind::Feature) => feature_roles(alloc, algebra, at, fields, texts),
+        Some(Kind::Feature) => feature_roles(alloc, algebra, at, fields),
         Some(Kind::GeometryCollection) => {
             let geometries = fields.geometries.take();
-            new_roles(
-                alloc,
-                Role::Geometry(of_geometries(alloc, at, geometries)),
-                texts,
-            )
+            let found = of_geometries(alloc, at, geometries);
+            roles_without_texts(alloc, Role::Geometry(found))
         }
-        Some(Kind::Point) => coordinates_roles(alloc, algebra, at, Kind::Point, fields, texts),
-        Some(Kind::MultiPoint) => coordinates_roles(
-            alloc,
-            algebra,
-            at,
-            Kind::MultiPoint,
-            fields,
-            texts,
-        ),
-        Some(Kind::LineString) => coordinates_roles(
-            alloc,
-            algebra,
-            at,
-            Kind::LineString,
-            fields,
-            texts,
-        ),
+        Some(Kind::Point) => coordinates_roles(alloc, algebra, at, Kind::Point, fields),
+        Some(Kind::MultiPoint) => coordinates_roles(alloc, algebra, at, Kind::MultiPoint, fields),
+        Some(Kind::LineString) => coordinates_roles(alloc, algebra, at, Kind::LineString, fields),
         Some(Kind::MultiLineString) => coordinates_roles(
             alloc,
             algebra,
             at,
             Kind::MultiLineString,
             fields,
-            texts,
         ),
-        Some(Kind::Polygon) => coordinates_roles(alloc, algebra, at, Kind::Polygon, fields, texts),
+        Some(Kind::Polygon) => coordinates_roles(alloc, algebra, at, Kind::Polygon, fields),
         Some(Kind::MultiPolygon) => coordinates_roles(
             alloc,
             algebra,
             at,
             Kind::MultiPolygon,
             fields,
-            texts,
         ),
     }
 }
@@ -227,7 +204,8 @@ pub fn fields_atom(
     if kind.is_none() && texts.as_slice().is_empty() {
         return Ok(GeoAtom::Void(at));
     }
-    let roles = roles_of(alloc, algebra, at, kind, fields, texts)?;
+    let mut roles = roles_of(alloc, algebra, at, kind, fields)?;
+    roles.texts = texts;
     Ok(GeoAtom::Object(ObjectAtom { at, roles }))
 }
 

@@ -4,7 +4,8 @@ ghost use Rattle.std.specs.Prelude.{◌≡◌, [], None, ◌+◌, ◌^◌, ◌�
 ghost use Rattle.at_wkt.specs.Readers.{refusal as refusal_at, gathered_shape, kept_shape as shape_kept};
 ghost use Rattle.at_text.specs.Halts.{IfStopped};
 ghost use Rattle.at_wkt.specs.Readers.{line_answer as answer_of, IsGatheredLine, LineStands, LineStops};
-ghost use Rattle.at_wkt.specs.Answers.{IfFound, HasLineShape, HasFirstLineFault, IsPrefixOf, IsPrefixFault};
+ghost use Rattle.at_text.specs.Refusals.{IfFound};
+ghost use Rattle.at_wkt.specs.Answers.{HasLineShape, HasFirstLineFault, IsPrefixOf, IsPrefixFault};
 
 use crate::answers::{LineFault, Prefix};
 use crate::line::bytes::skip_blanks;
@@ -13,7 +14,7 @@ use crate::line::paths::no_paths;
 use crate::line::sources::{Rules, Source};
 use at_fixed::Coords;
 use at_geom::{Path, Paths, Polygons, Shape};
-use at_text::{Fault, FaultKind, Halt, stop_at};
+use at_text::{Fault, FaultKind, Halt, Refusal, stop_at};
 use std::alloc::Global;
 
 /// Nothing, before anything is read.
@@ -54,24 +55,24 @@ fn kept_shape(alloc: Global, gathered: Gathered) -> Shape
 }
 
 /// The shape of a line, or its first fault.
-fn line_answer(gathered: Gathered) -> Result<Shape, LineFault>
+fn line_answer(gathered: Gathered) -> Result<Shape, Refusal>
     ensures { result ≡ answer_of gathered }
 {
     match gathered.fault {
         None => Ok(shape_of(gathered)),
-        Some(fault) => Err(LineFault::Found(fault)),
+        Some(fault) => Err(Refusal::Found(fault)),
     }
 }
 
 /// The refusal of a text where reading it stopped.
-pub fn refusal_of(text: &[u8], base: u32, halt: Halt) -> LineFault
+pub fn refusal_of(text: &[u8], base: u32, halt: Halt) -> Refusal
     requires inside { IfStopped halt (λ n. n ≤ length text.now) }
     requires short { base + length text.now ≤ 2 ^ 28 }
     ensures { result ≡ refusal_at base text.now halt }
 {
     match halt {
-        Halt::At(at) => LineFault::Found(stop_at(text, base, at)),
-        Halt::Memory => LineFault::Memory,
+        Halt::At(at) => Refusal::Found(stop_at(text, base, at)),
+        Halt::Memory => Refusal::Memory,
     }
 }
 

@@ -2,7 +2,8 @@
 
 ghost use Rattle.std.specs.Prelude.{◌≡◌, [], ℕ, ◌+◌, ◌≤◌, ◌^◌, length, take, IfOk, MatchResult};
 ghost use Rattle.at_fixed.specs.declared.rounding.Coords.{Coords};
-ghost use Rattle.at_wkt.specs.Answers.{HasFaultOrShape, HasLineShape, HasFirstLineFault, IfFound};
+ghost use Rattle.at_text.specs.Refusals.{IfFound};
+ghost use Rattle.at_wkt.specs.Answers.{HasFaultOrShape, HasLineShape, HasFirstLineFault};
 ghost use Rattle.at_text.specs.Halts.{IfStopped};
 ghost use Rattle.at_wkt.specs.Readers.{LineStops};
 
@@ -13,7 +14,7 @@ use crate::line::reading::{nothing_gathered, read_between, read_front, refusal_o
 use crate::line::sources::{Rules, Source};
 use at_fixed::Coords;
 use at_geom::{Path, Paths, Polygon, Polygons, Shape};
-use at_text::{Fault, Halt, Memory, stop_at};
+use at_text::{Fault, Halt, Memory, Refusal, stop_at};
 use std::alloc::Global;
 use std::mem;
 
@@ -162,7 +163,7 @@ impl Room {
             Err(halt) => Err(refusal_of(&ahead[..len], at, halt)),
             Ok(()) => match self.gathered.fault {
                 None => Ok(&self.shape),
-                Some(fault) => Err(LineFault::Found(fault)),
+                Some(fault) => Err(Refusal::Found(fault)),
             },
         }
     }

@@ -5,7 +5,7 @@ use Rattle.at_run.proofs.json_files.tree_part.Goals as goal
 pub returns-in-Ok : goal.returns-in-Ok
 returns-in-Ok c =
     let asked = c.args.algebra.now in
-    rw c.end_of_root.ensures (tree_answered asked c.args.bytes.now c.in-Ok.atom c.root_part.result c.in-Ok.ensures.answers c.root_part.ensures)
+    tree_answered asked c.args.bytes.now c.in-Ok.atom c.root_part.result c.in-Ok.ensures.answers c.root_part.ensures
 
 pub returns-in-Err : goal.returns-in-Err
 returns-in-Err c =

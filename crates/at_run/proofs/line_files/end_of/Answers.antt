@@ -9,17 +9,18 @@ use Rattle.at_query.specs.declared.answer.parts.Part.{Part}
 use Rattle.at_query.specs.declared.answer.accumulators.Accumulator.{Accumulator}
 use Rattle.at_query.specs.Parts.{IsPart}
 use Rattle.at_query.specs.Accumulators.{IsAccumulated}
-use Rattle.at_run.specs.declared.faults.RunFault.{RunFault}
-use Rattle.at_run.specs.declared.faults.RunFault.TheVariants.{Memory}
+use Rattle.at_text.specs.declared.refusals.Refusal.{Refusal}
+use Rattle.at_text.specs.declared.refusals.Refusal.TheVariants.{Memory}
 use Rattle.at_run.specs.declared.forms.Form.TheVariants.{Wkt}
 use Rattle.at_query.specs.declared.answer.gathered.Gathered.TheVariants.{Kept, Failed}
 use Rattle.at_run.specs.LineFaults.{HasLinesFault}
 use Rattle.at_run.specs.Gathering.{Asked, IsGathered}
-use Rattle.at_run.specs.Answers.{IfFound, IsFilePart}
+use Rattle.at_text.specs.Refusals.{IfFound}
+use Rattle.at_run.specs.Answers.{IsFilePart}
 use Rattle.at_run.proofs.ValidLines.{file_valid, lines_valid}
 use Rattle.at_run.proofs.line_files.end_of.Goals as goal
 
-lines_end : (asked : Asked) (bytes : List ℕ) (kept : Accumulator) (end : Result Part RunFault) → IsGathered asked (Kept kept) (lines_of bytes)
+lines_end : (asked : Asked) (bytes : List ℕ) (kept : Accumulator) (end : Result Part Refusal) → IsGathered asked (Kept kept) (lines_of bytes)
     → MatchResult end (λ part. (query : Query) (fs : List Feature) → IsAccumulated query fs kept → IsPart query fs part) (λ e. e ≡ Memory)
     → MatchResult end (IsFilePart Wkt asked.digits asked.how asked.query bytes) (λ e. IfFound e (λ fault. HasLinesFault asked.digits asked.how bytes (Some fault)))
 lines_end asked bytes kept (Ok part) (valid, first, (features, are, is)) becomes =

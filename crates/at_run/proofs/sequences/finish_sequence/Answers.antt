@@ -4,4 +4,4 @@ use Rattle.at_run.proofs.sequences.finish_sequence.Goals as goal
 pub returns : goal.returns
 returns c =
     let asked = c.args.algebra.now in
-    rw c.end_of_sequence.ensures (sequence_ended asked.digits asked.how asked.query c.args.bytes.now c.part_of_whole.result c.part_of_whole.ensures)
+    sequence_ended asked.digits asked.how asked.query c.args.bytes.now c.part_of_whole.result c.part_of_whole.ensures

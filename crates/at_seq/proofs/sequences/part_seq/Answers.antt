@@ -1,7 +1,8 @@
 use Rattle.std.proofs.Common.{MatchResult, Some, subst}
 use Rattle.at_seq.specs.Fragments.{SeqAsks}
 use Rattle.at_seq.specs.Sequences.{HasSeqFault}
-use Rattle.at_seq.specs.Answers.{IfFound, IsSeqPart}
+use Rattle.at_text.specs.Refusals.{IfFound}
+use Rattle.at_seq.specs.Answers.{IsSeqPart}
 use Rattle.at_seq.proofs.OneSequence.{only_end}
 use Rattle.at_seq.proofs.ProperEntries.{proper_end}
 use Rattle.at_seq.proofs.sequences.part_seq.Goals as goal
@@ -17,4 +18,4 @@ returns-clause-proper g c =
     proper_end _ c.args.bytes.now c.finish_pieces.result (subst P c.new-reader.ensures c.finish_pieces.ensures)
 
 pub returns-clause-given_up : goal.returns-clause-given_up
-returns-clause-given_up g c (n, low, high, h) = absurd (c.in-Ok-run_file.ensures.given_up n low high h)
+returns-clause-given_up g c (n, low, high, h) = absurd (c.in_ok-whole.ensures.given_up n low high h)

@@ -1,8 +1,7 @@
-use Rattle.std.proofs.Common.{◌≡◌, List, ℕ, false, Err, IfSome, ◌∙◌, ap, subst}
-use Rattle.at_cli.specs.Made.{is_made}
+use Rattle.std.proofs.Common.{List, ℕ, Err, IfSome, ◌∙◌, ap, subst}
 use Rattle.at_cli.specs.Outcomes.{HasBytes, HasBytesOutcome}
-use Rattle.at_cli.specs.Failures.{asked_name, asked_second, meanings_of, WasAsked}
-use Rattle.at_cli.proofs.ShelfUses.{ends_sized, failed_name}
+use Rattle.at_cli.specs.Failures.{asked_second, meanings_of}
+use Rattle.at_cli.proofs.ShelfUses.{ends_sized, failed_as}
 use Rattle.at_cli.proofs.outcome.loading.load_one.Goals as goal
 
 pub returns-in-Ok-clause-outcome : goal.returns-in-Ok-clause-outcome
@@ -15,9 +14,5 @@ returns-in-Ok-clause-outcome g c end leads =
 
 pub returns-in-Err-Failed-clause-failed : goal.returns-in-Err-Failed-clause-failed
 returns-in-Err-Failed-clause-failed g c three =
-    let before = meanings_of g.S.Shelf c.args.shelf.now in
-    let after = meanings_of g.S.Shelf c.named_bytes.new.shelf in
-    let (unmade, rose, broken) = c.named_bytes.ensures.failed (c.in-Err-Failed.is ∙ ap Err c.in-Err-Failed.field-0-is) in
-    let M : List ℕ → Type 0 = λ name. is_made name ≡ false in
-    let A : List ℕ → Type 0 = λ name. WasAsked (asked_name name) before after in
-    failed_name c.args.line.first (asked_second c.args.line.second) before after (subst M c.as_str.ensures unmade) rose broken (subst A c.as_str.ensures c.named_bytes.ensures.asked)
+    failed_as c.as_str.result.now c.args.line.first (asked_second c.args.line.second) (meanings_of g.S.Shelf c.args.shelf.now) (meanings_of g.S.Shelf c.named_bytes.new.shelf) c.as_str.ensures
+    (c.named_bytes.ensures.failed (c.in-Err-Failed.is ∙ ap Err c.in-Err-Failed.field-0-is)) c.named_bytes.ensures.asked

@@ -1,10 +1,9 @@
-use Rattle.std.proofs.Common.{◌≡◌, List, [], ◌++◌, ℕ, false, Err, IfSome, sym, ◌∙◌, ap, subst, append-nil}
+use Rattle.std.proofs.Common.{◌≡◌, List, [], ◌++◌, ℕ, Err, IfSome, sym, ◌∙◌, ap, subst, append-nil}
 use Rattle.std.proofs.lemmas.Option.{same_Some}
-use Rattle.at_cli.specs.Made.{is_made}
 use Rattle.at_cli.specs.Texts.{unread_line}
 use Rattle.at_cli.specs.Outcomes.{HasBytes, HasPairOutcome}
-use Rattle.at_cli.specs.Failures.{asked_name, asked_second, meanings_of, WasAsked, FailedOn}
-use Rattle.at_cli.proofs.ShelfUses.{ends_sized, failed_name}
+use Rattle.at_cli.specs.Failures.{asked_name, asked_second, meanings_of, FailedOn}
+use Rattle.at_cli.proofs.ShelfUses.{ends_sized, failed_as}
 use Rattle.at_cli.proofs.outcome.loading.load_second.Goals as goal
 
 pub returns-in-Ok-clause-outcome : goal.returns-in-Ok-clause-outcome
@@ -22,9 +21,6 @@ returns-in-Err-Failed-clause-failed g c three =
     let after = meanings_of g.S.Shelf c.named_bytes.new.shelf in
     let name = c.second_of.result in
     let same : c.second_text.result.now ≡ name = same_Some c.second_text.result.now name (c.second_text.ensures ∙ sym c.second_of.ensures) in
-    let (unmade, rose, broken) = c.named_bytes.ensures.failed (c.in-Err-Failed.is ∙ ap Err c.in-Err-Failed.field-0-is) in
-    let M : List ℕ → Type 0 = λ name. is_made name ≡ false in
-    let A : List ℕ → Type 0 = λ name. WasAsked (asked_name name) before after in
     let F : List (List ℕ) → Type 0 = λ names. FailedOn names (unread_line name) before after in
     let names : asked_name name ++ [] ≡ asked_second c.args.line.second = append-nil (asked_name name) ∙ ap asked_second c.second_of.ensures in
-    subst F names (failed_name name [] before after (subst M same unmade) rose broken (subst A same c.named_bytes.ensures.asked))
+    subst F names (failed_as c.second_text.result.now name [] before after same (c.named_bytes.ensures.failed (c.in-Err-Failed.is ∙ ap Err c.in-Err-Failed.field-0-is)) c.named_bytes.ensures.asked)

@@ -4,8 +4,9 @@ use Rattle.at_geom.specs.Shapes.{IsShapeInRange}
 use Rattle.at_query.proofs.ShapeRanges.{shape_in}
 use Rattle.at_query.specs.declared.features.Feature.{Feature}
 use Rattle.at_query.specs.declared.query.queries.Test.{Test}
-use Rattle.at_wkt.specs.declared.answers.LineFault.{LineFault}
-use Rattle.at_wkt.specs.Answers.{IfFound, HasLineShape, HasFirstLineFault}
+use Rattle.at_text.specs.declared.refusals.Refusal.{Refusal}
+use Rattle.at_text.specs.Refusals.{IfFound}
+use Rattle.at_wkt.specs.Answers.{HasLineShape, HasFirstLineFault}
 use Rattle.at_wkt.specs.Lines.{FileLine}
 use Rattle.at_query.specs.declared.answer.gathered.Gathered.TheVariants.{Failed}
 use Rattle.at_query.specs.GatheredParts.{AddsFeature}
@@ -49,7 +50,7 @@ returns-clause-fold c =
     let line = c.in-Ok.line in let end = c.in-Err-read_line.end in
     let text : FileLine = record { at = c.args.at; text = take c.args.len c.args.ahead.now } in
     let Q : Asked → Type 0 = λ asked. IfFound end (HasFirstLineFault asked.digits asked.how line.at (take line.len line.ahead.now)) in
-    let P : LineFault → Type 0 = λ z. IfFound z (λ fault. IsGathered c.args.self.now (Failed fault) (text ∷ [])) in
+    let P : Refusal → Type 0 = λ z. IfFound z (λ fault. IsGathered c.args.self.now (Failed fault) (text ∷ [])) in
     let found : P end = found_weaker end (HasFirstLineFault c.args.self.now.digits c.args.self.now.how line.at (take line.len line.ahead.now)) (λ fault. IsGathered c.args.self.now (Failed fault) (text ∷ []))
     (λ fault h. read_fault c.args.self.now c.args.ahead.now c.args.len c.args.at line c.in-Ok.ensures fault h) (subst Q c.self.view_is c.in-Err-read_line.ensures) in
     IfOk-weaker c.add_end.result _ _ (λ u (fault, e, joins) lines before. joins_lines c.args.gathered.now (Failed fault) c.add_end.new.gathered joins c.args.self.now lines (text ∷ []) before (subst P e found)) c.add_end.ensures

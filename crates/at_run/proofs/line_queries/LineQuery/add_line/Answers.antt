@@ -1,7 +1,7 @@
 use Rattle.std.proofs.Common.{◌∷◌, [], subst}
 use Rattle.std.proofs.lemmas.Result.{IfOk-weaker}
-use Rattle.at_wkt.specs.declared.answers.LineFault.{LineFault}
-use Rattle.at_wkt.specs.Answers.{IfFound}
+use Rattle.at_text.specs.declared.refusals.Refusal.{Refusal}
+use Rattle.at_text.specs.Refusals.{IfFound}
 use Rattle.at_wkt.specs.Lines.{FileLine}
 use Rattle.at_query.specs.declared.answer.gathered.Gathered.TheVariants.{Failed}
 use Rattle.at_query.specs.GatheredParts.{AddsFeature}
@@ -26,5 +26,5 @@ returns-in-Err-clause-own c = IfOk-weaker c.add_end.result _ _ (λ u (fault, e, 
 pub returns-in-Err-clause-fold : goal.returns-in-Err-clause-fold
 returns-in-Err-clause-fold c =
     let line : FileLine = record { at = c.args.at; text = c.args.text.now } in
-    let P : LineFault → Type 0 = λ z. IfFound z (λ fault. IsGathered c.args.self.now (Failed fault) (line ∷ [])) in
+    let P : Refusal → Type 0 = λ z. IfFound z (λ fault. IsGathered c.args.self.now (Failed fault) (line ∷ [])) in
     IfOk-weaker c.add_end.result _ _ (λ u (fault, e, joins) lines before. joins_lines c.args.gathered.now (Failed fault) c.add_end.new.gathered joins c.args.self.now lines (line ∷ []) before (subst P e c.in-Err.ensures)) c.add_end.ensures

@@ -2,7 +2,8 @@ use Rattle.std.proofs.Common.{List, [], ◌∷◌, length, take, subst}
 use Rattle.std.proofs.Math.Seq.{take-length}
 use Rattle.std.proofs.lemmas.Result.{err_from_is_err_and}
 use Rattle.at_query.specs.declared.query.queries.Test.{Test}
-use Rattle.at_wkt.specs.Answers.{IfFound, HasLineShape, HasFirstLineFault}
+use Rattle.at_text.specs.Refusals.{IfFound}
+use Rattle.at_wkt.specs.Answers.{HasLineShape, HasFirstLineFault}
 use Rattle.at_query.specs.declared.answer.gathered.Gathered.TheVariants.{Failed}
 use Rattle.at_run.specs.Gathering.{Asked, IsGathered}
 use Rattle.at_run.specs.Labelling.{AreFrontTexts}

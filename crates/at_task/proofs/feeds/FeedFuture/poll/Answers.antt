@@ -2,7 +2,7 @@ use Rattle.std.proofs.Common.{◌≡◌, ℕ, ◌+◌, ◌++◌, ◌^◌, List, 
 use Rattle.std.proofs.Math.ListN.{length-append}
 use Rattle.at_run.specs.Readers.{Asks}
 use Rattle.at_task.specs.FeedEnds.{IsFed}
-use Rattle.at_task.proofs.FeedBytes.{some_bytes, end_bytes, any_bytes, same_bytes}
+use Rattle.at_task.proofs.FeedBytes.{some_bytes, end_bytes, any_bytes, said_before}
 use Rattle.at_task.proofs.Said.{part_beside}
 use Rattle.at_task.proofs.feeds.FeedFuture.poll.Goals as goal
 
@@ -34,23 +34,10 @@ returns-in-Lacks-clause-value g c =
     (bytes, are, tt)
 
 pub returns-in-Waits-clause-same : goal.returns-in-Waits-clause-same
-returns-in-Waits-clause-same g c out (bytes, are, fed) =
-    let (more, grown) = c.in-Waits.ensures.taken in
-    let P : Asks → Type 0 = λ asks. IsFed asks bytes out in (
-      bytes,
-      same_bytes c.args.self.now.intake.taken c.draw.new.intake.taken more grown (g.T.Chunks.rest c.args.self.now.source) (g.T.Chunks.rest c.draw.new.source) c.in-Waits.ensures.bytes bytes are,
-      subst P c.in-Waits.ensures.asks fed,
-    )
+returns-in-Waits-clause-same g c out = said_before (λ asks bytes. IsFed asks bytes out) c.args.self.now.intake.taken c.draw.new.intake.taken (g.T.Chunks.rest c.args.self.now.source) (g.T.Chunks.rest c.draw.new.source) c.in-Waits.ensures.asks c.in-Waits.ensures.taken c.in-Waits.ensures.bytes
 
 pub returns-in-Turned-clause-same : goal.returns-in-Turned-clause-same
-returns-in-Turned-clause-same g c = rw c.yield_now.ensures.pending (λ out said.
-    let (bytes, are, fed) = said in
-    let (more, grown) = c.in-Turned.ensures.taken in
-    let P : Asks → Type 0 = λ asks. IsFed asks bytes out in (
-      bytes,
-      same_bytes c.args.self.now.intake.taken c.draw.new.intake.taken more grown (g.T.Chunks.rest c.args.self.now.source) (g.T.Chunks.rest c.draw.new.source) c.in-Turned.ensures.bytes bytes are,
-      subst P c.in-Turned.ensures.asks fed,
-    ))
+returns-in-Turned-clause-same g c = rw c.yield_now.ensures.pending (λ out. said_before (λ asks bytes. IsFed asks bytes out) c.args.self.now.intake.taken c.draw.new.intake.taken (g.T.Chunks.rest c.args.self.now.source) (g.T.Chunks.rest c.draw.new.source) c.in-Turned.ensures.asks c.in-Turned.ensures.taken c.in-Turned.ensures.bytes)
 
 pub returns-in-Ended-clause-part : goal.returns-in-Ended-clause-part
 returns-in-Ended-clause-part g c =

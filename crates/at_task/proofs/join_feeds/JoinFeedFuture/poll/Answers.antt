@@ -3,7 +3,7 @@ use Rattle.std.proofs.Math.ListN.{length-append}
 use Rattle.at_run.specs.Readers.{Asks}
 use Rattle.at_task.specs.Keeping.{IsKept}
 use Rattle.at_task.specs.PairEnds.{IsPaired}
-use Rattle.at_task.proofs.FeedBytes.{begun_bytes, emptied_bytes}
+use Rattle.at_task.proofs.FeedBytes.{both_begun, emptied_bytes}
 use Rattle.at_task.proofs.Pairings.{paired_said}
 use Rattle.at_task.proofs.join_feeds.JoinFeedFuture.poll.Goals as goal
 
@@ -11,29 +11,26 @@ pub returns-in-FirstTooLarge-clause-value : goal.returns-in-FirstTooLarge-clause
 returns-in-FirstTooLarge-clause-value g c =
     let a = c.poll_one-first.new.feed.intake.taken in
     let b = c.poll_one-second.new.feed.intake.taken in
-    let (behind, are) = begun_bytes a (g.T.Chunks.rest c.poll_one-first.new.feed.source) in
-    let (other, also) = begun_bytes b (g.U.Chunks.rest c.poll_one-second.new.feed.source) in
+    let (behind, other, are, also) = both_begun a b (g.T.Chunks.rest c.poll_one-first.new.feed.source) (g.U.Chunks.rest c.poll_one-second.new.feed.source) _ _ c.poll_one-first.ensures.same_bytes c.poll_one-second.ensures.same_bytes in
     let many : length a ≡ 2 ^ 28 + 1 = c.poll_one-first.ensures.many.0 c.in-FirstTooLarge.ensures in
     let size = length-append a behind in
-    (a ++ behind, b ++ other, c.poll_one-first.ensures.same_bytes (a ++ behind) are, c.poll_one-second.ensures.same_bytes (b ++ other) also, omega (arith, many, size))
+    (a ++ behind, b ++ other, are, also, omega (arith, many, size))
 
 pub returns-in-SecondTooLarge-clause-value : goal.returns-in-SecondTooLarge-clause-value
 returns-in-SecondTooLarge-clause-value g c =
     let a = c.poll_one-first.new.feed.intake.taken in
     let b = c.poll_one-second.new.feed.intake.taken in
-    let (behind, are) = begun_bytes a (g.T.Chunks.rest c.poll_one-first.new.feed.source) in
-    let (other, also) = begun_bytes b (g.U.Chunks.rest c.poll_one-second.new.feed.source) in
+    let (behind, other, are, also) = both_begun a b (g.T.Chunks.rest c.poll_one-first.new.feed.source) (g.U.Chunks.rest c.poll_one-second.new.feed.source) _ _ c.poll_one-first.ensures.same_bytes c.poll_one-second.ensures.same_bytes in
     let many : length b ≡ 2 ^ 28 + 1 = c.poll_one-second.ensures.many.0 c.in-SecondTooLarge.ensures.1 in
     let size = length-append b other in
-    (a ++ behind, b ++ other, c.poll_one-first.ensures.same_bytes (a ++ behind) are, c.poll_one-second.ensures.same_bytes (b ++ other) also, omega (arith, many, size))
+    (a ++ behind, b ++ other, are, also, omega (arith, many, size))
 
 pub returns-in-Lacks-clause-value : goal.returns-in-Lacks-clause-value
 returns-in-Lacks-clause-value g c =
     let a = c.poll_one-first.new.feed.intake.taken in
     let b = c.poll_one-second.new.feed.intake.taken in
-    let (behind, are) = begun_bytes a (g.T.Chunks.rest c.poll_one-first.new.feed.source) in
-    let (other, also) = begun_bytes b (g.U.Chunks.rest c.poll_one-second.new.feed.source) in
-    (a ++ behind, b ++ other, c.poll_one-first.ensures.same_bytes (a ++ behind) are, c.poll_one-second.ensures.same_bytes (b ++ other) also, tt)
+    let (behind, other, are, also) = both_begun a b (g.T.Chunks.rest c.poll_one-first.new.feed.source) (g.U.Chunks.rest c.poll_one-second.new.feed.source) _ _ c.poll_one-first.ensures.same_bytes c.poll_one-second.ensures.same_bytes in
+    (a ++ behind, b ++ other, are, also, tt)
 
 pub returns-in-Done-clause-value : goal.returns-in-Done-clause-value
 returns-in-Done-clause-value g c =
