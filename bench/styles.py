@@ -30,7 +30,7 @@ SIZE, SMALL = 60_000_000, 1_000_000
 # as many bytes of features are made, which then come again and again
 BLOCK = 4_000_000
 BLOCKS = 4096
-ROUNDS = 7
+ROUNDS = 31
 RING = 20_000
 BOX = " ".join(map(str, geojson.BOX[:2])) + "," + " ".join(map(str, geojson.BOX[2:]))
 QUERIES = {"count": "count", "extent": "extent", "area": "area", "has": 'count where has "kind" = "bridge"',
