@@ -3,11 +3,11 @@
 ghost use Rattle.std.specs.Prelude.{IfOk, All};
 ghost use Rattle.at_geom.specs.Shapes.{IsShapeInRange};
 
-use crate::random::Random;
 use crate::rings::{of_line, of_point, of_ring, position_of, ring};
 use at_band::Bands;
 use at_geom::Shape;
 use at_text::Memory;
+use bench_shared::Random;
 use std::alloc::Global;
 
 /// How many shapes there are, each of which is asked of again and again.

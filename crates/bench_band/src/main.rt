@@ -3,22 +3,13 @@
 #![tactic(auto)]
 
 mod counts;
-mod random;
 mod rings;
 
 use at_text::Memory;
+use bench_shared::word;
 use counts::{lines_meeting, points_meeting};
 use std::io;
 use std::rt::Env;
-
-fn word<R: Env + AllocGlobal>(rt: &R, at: usize) -> io::Result<Option<u64>> {
-    let mut words = std::env::args(rt)?;
-    let word = words.nth(at);
-    Ok(match &word {
-        Some(text) => text.as_str().parse::<u64>().ok(),
-        None => None,
-    })
-}
 
 fn run<R: Env + Print + AllocGlobal>(rt: &R) -> io::Result<()> {
     let kind = word(rt, 1)?.unwrap_or(0);

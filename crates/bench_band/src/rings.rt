@@ -4,9 +4,9 @@ ghost use Rattle.std.specs.Prelude.{IfOk, All};
 ghost use Rattle.at_geom.specs.Segments.{IsInRange};
 ghost use Rattle.at_geom.specs.Shapes.{ArePathsInRange, ArePolygonsInRange, IsShapeInRange};
 
-use crate::random::Random;
 use at_geom::{Path, Paths, Polygon, Polygons, Pos, Shape};
 use at_text::Memory;
+use bench_shared::Random;
 use std::alloc::Global;
 
 /// The position of these coordinates, each below 2^20.

@@ -43,32 +43,7 @@ fn is_join(verb: Verb) -> bool
     }
 }
 
-/// The printed answer to a query over the bytes of the file of that name, or the line of its first fault.
-fn told_of_bytes<R: Threads + Sync>(
-    rt: &R,
-    alloc: Global,
-    query: Query,
-    name: &str,
-    bytes: &[u8],
-    blocks: u32,
-) -> Result<String, Memory>
-    requires short { length bytes.now ≤ 2 ^ 28 }
-    requires blocks { (1 ≤ blocks) × (blocks ≤ 4096) }
-    requires no_join { query.verb ≢ Verb.Join }
-    requires in_range { IsQueryInRange query }
-{
-    match answer(rt, alloc, bytes, form_of(name), query, blocks) {
-        Ok(answer) => answer_text(alloc, &answer, DIGITS),
-        Err(RunFault::Found(fault)) => {
-            let kind = fault.kind;
-            let at = fault.at;
-            Ok(format!(in alloc; "{name}: {kind:?} at {at}\n")?)
-        }
-        Err(RunFault::Memory) => Err(Memory),
-    }
-}
-
-/// What is told of a query over the file of that name.
+/// What is told of a query over the file of that name: the printed answer, or the line of its first fault.
 fn told_of_file<R: Files + Input + Threads + Sync>(
     rt: &R,
     alloc: Global,
@@ -80,11 +55,22 @@ fn told_of_file<R: Files + Input + Threads + Sync>(
     requires no_join { query.verb ≢ Verb.Join }
     requires in_range { IsQueryInRange query }
 {
-    match read_whole(alloc, &mut DiskShelf::new(rt), name) {
-        Ok(bytes) => told_of_bytes(rt, alloc, query, name, &bytes, blocks),
-        Err(ReadError::Failed) => Ok(format!(in alloc; "{name}: read failed\n")?),
-        Err(ReadError::TooLarge) => Ok(format!(in alloc; "{name}: more than 268435456 bytes\n")?),
-        Err(ReadError::Memory) => Err(Memory),
+    let bytes = match read_whole(alloc, &mut DiskShelf::new(rt), name) {
+        Ok(bytes) => bytes,
+        Err(ReadError::Failed) => return Ok(format!(in alloc; "{name}: read failed\n")?),
+        Err(ReadError::TooLarge) => {
+            return Ok(format!(in alloc; "{name}: more than 268435456 bytes\n")?);
+        }
+        Err(ReadError::Memory) => return Err(Memory),
+    };
+    match answer(rt, alloc, &bytes, form_of(name), query, blocks) {
+        Ok(answer) => answer_text(alloc, &answer, DIGITS),
+        Err(RunFault::Found(fault)) => {
+            let kind = fault.kind;
+            let at = fault.at;
+            Ok(format!(in alloc; "{name}: {kind:?} at {at}\n")?)
+        }
+        Err(RunFault::Memory) => Err(Memory),
     }
 }
 

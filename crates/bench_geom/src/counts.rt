@@ -4,9 +4,9 @@ ghost use Rattle.std.specs.Prelude.{IfOk, All};
 ghost use Rattle.at_geom.specs.Segments.{IsInRange};
 ghost use Rattle.at_geom.specs.Shapes.{ArePathsInRange};
 
-use crate::random::Random;
 use at_geom::{Path, Paths, Polygon, Pos, in_polygon, segments_meet};
 use at_text::Memory;
+use bench_shared::Random;
 use std::alloc::Global;
 
 /// How many of `count` random pairs of segments meet.

@@ -3,10 +3,10 @@
 ghost use Rattle.std.specs.Prelude.{IfOk, All};
 ghost use Rattle.at_geom.specs.Segments.{IsInRange};
 
-use crate::random::Random;
 use at_geom::{Path, Pos};
 use at_hull::hull;
 use at_text::Memory;
+use bench_shared::Random;
 use std::alloc::Global;
 
 /// So many random positions.

@@ -5,9 +5,9 @@
 
 mod counts;
 mod hulls;
-mod random;
 
 use at_text::Memory;
+use bench_shared::word;
 use counts::{inside, meeting};
 use hulls::{corners, positions};
 use std::io;
@@ -37,15 +37,6 @@ fn named_subject(name: &str) -> Subject {
         "positions" => Subject::Positions,
         _ => Subject::Segments,
     }
-}
-
-fn word<R: Env + AllocGlobal>(rt: &R, at: usize) -> io::Result<Option<u64>> {
-    let mut words = std::env::args(rt)?;
-    let word = words.nth(at);
-    Ok(match &word {
-        Some(text) => text.as_str().parse::<u64>().ok(),
-        None => None,
-    })
 }
 
 fn run<R: Env + Print + AllocGlobal>(rt: &R) -> io::Result<()> {

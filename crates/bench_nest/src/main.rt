@@ -5,8 +5,6 @@
 #![tactic(auto)]
 
 ghost use Rattle.std.specs.Prelude.{◌≤◌, ◌<◌, ◌^◌, length};
-ghost use Rattle.at_nest.specs.TextAnswers.{Answers};
-ghost use Rattle.bench_nest.specs.Nodes.{IsCount};
 
 mod blocks;
 mod features;
@@ -25,26 +23,7 @@ use std::thread::Threads;
 use std::{fs, io};
 use tokens::count_tokens;
 
-/// What one round gives.
-fn count<R: Threads + Sync>(
-    rt: &R,
-    alloc: Global,
-    bytes: &[u8],
-    blocks: u32,
-    workers: u32,
-) -> Result<u64, NestEnd>
-    requires fits { length bytes.now ≤ 2 ^ 28 }
-    requires blocks { blocks ≤ 4096 }
-    requires workers { (0 < workers) × (workers ≤ 64) }
-    ensures { 0 < blocks → Answers IsCount 0 bytes.now result }
-{
-    if blocks == 0 {
-        return Ok(count_tokens(bytes));
-    }
-    count_nodes(rt, alloc, bytes, blocks, workers)
-}
-
-/// What the last of so many rounds gives.
+/// What the last of so many rounds gives: how many values there are, or in no block how many tokens.
 fn count_rounds<R: Threads + Sync>(
     rt: &R,
     alloc: Global,
@@ -59,7 +38,11 @@ fn count_rounds<R: Threads + Sync>(
 {
     let mut last = Err(NestEnd::Ended);
     for _ in 0..rounds {
-        last = count(rt, alloc, bytes, blocks, workers);
+        last = if blocks == 0 {
+            Ok(count_tokens(bytes))
+        } else {
+            count_nodes(rt, alloc, bytes, blocks, workers)
+        };
     }
     last
 }
