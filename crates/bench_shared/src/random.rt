@@ -28,12 +28,16 @@ impl Random {
     }
 
     /// Some number below 2^20.
-    pub fn number(&mut self) -> u64 {
+    pub fn number(&mut self) -> u64
+        ensures { result < 2 ^ 20 }
+    {
         u64::from(self.coordinate())
     }
 
     /// Some number of at most 4095.
-    pub fn below(&mut self) -> u64 {
+    pub fn below(&mut self) -> u64
+        ensures { result < 4096 }
+    {
         u64::from(self.coordinate() % 4_096)
     }
 
