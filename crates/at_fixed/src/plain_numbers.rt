@@ -136,7 +136,8 @@ pub fn plain_number(text: &[u8], notation: Notation, digits: u8, how: Coords) ->
     {
         return Some(number);
     }
-    long_number(text, notation, digits, how)
+    let PlainNumber { len, value } = long_number(text, notation, digits, how)?;
+    Some(PlainNumber { len, value })
 }
 
 /// The length of the number that begins a text, where it is written plainly and surely has a value: what `plain_number`

@@ -8,13 +8,6 @@ use Rattle.at_lex.specs.Spans.{AreSpaces}
 use Rattle.at_scan.specs.declared.places.NamePlace.{NamePlace}
 use Rattle.at_scan.specs.declared.short_texts.SimpleItem.{SimpleItem}
 
--- the byte stands at the other place, with white space before it from the place on
-pub record StandsBehind (w : List ℕ) (at b place : ℕ) : Type 0 where
-  pub order : at ≤ place
-  pub spaces : AreSpaces (between w at place)
-  pub inside : place < length w
-  pub byte : slice_index w place ≡ b
-
 -- a byte that is a blank
 abbrev pub is_blank : ℕ → Bool
 is_blank b = b == 0x20

@@ -1,6 +1,6 @@
 //! The members of an object for which some kind of object asks, by their names (RFC 7946 section 3).
 
-ghost use Rattle.std.specs.Prelude.{◌≡◌};
+ghost use Rattle.std.specs.Prelude.{◌≡◌, false};
 ghost use Rattle.at_scan.specs.Fields.{field_of, is_kind as names_kind, is_coordinates as names_coordinates, is_no_field};
 
 use crate::spellings::Spelling;
@@ -59,6 +59,26 @@ pub fn field_named<S: Spelling>(name: S) -> Field
         Field::Features
     } else if name.is_word(b"geometries") {
         Field::Geometries
+    } else {
+        Field::Other
+    }
+}
+
+/// Whether the bytes may be the name of a member for which some kind asks: they begin as one of those names does.
+#[inline(always)]
+fn begins_field(name: &[u8]) -> bool
+    ensures { result ≡ false → field_of name.now ≡ Field.Other }
+{
+    !name.is_empty() && matches!(name[0], b't' | b'c' | b'g' | b'p' | b'f')
+}
+
+/// The member that has the name, by its bytes: what most tables name is seen by the first of them.
+#[inline(always)]
+pub fn field_of_bytes(name: &[u8]) -> Field
+    ensures { result ≡ field_of name.now }
+{
+    if begins_field(name) {
+        field_named(name)
     } else {
         Field::Other
     }

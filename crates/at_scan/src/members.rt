@@ -12,7 +12,7 @@ ghost use Rattle.at_scan.specs.Members.{AreCut, KeepsName};
 ghost use Rattle.at_scan.specs.Members.{AddsName, from_name, IsAgain, IsNextField, IsOtherName, AddsOther};
 ghost use Rattle.at_scan.specs.KnownNames.{StandsWord, IsFieldName};
 
-use crate::fields::{Field, field_named, is_other};
+use crate::fields::{Field, field_of_bytes, is_other};
 use crate::hashes::hash_of_tail;
 use crate::known_names::{known_name, stands_word};
 use crate::places::{NamePlace, ended_name, name_place, skip_spaces};
@@ -404,7 +404,7 @@ pub fn add_other(text: &[u8], others: &mut OtherNames, name: NamePlace) -> Resul
     ensures new { IfOk result (λ _. is_among_others text.now others.old (name_in text.now name) ≡ false) }
     ensures adds { IfOk result (λ _. AddsName text.now name others.old others.new) }
 {
-    let field = field_named(name_bytes(text, name));
+    let field = field_of_bytes(name_bytes(text, name));
     add_name(text, others, FieldName { place: name, field })
 }
 
@@ -418,7 +418,7 @@ fn any_name(text: &[u8], at: usize, first: usize) -> Result<FieldName, Halt>
     ensures { IfOk result (IsFieldName text.now at) }
 {
     let place = plain_name(text, at, first)?;
-    let field = field_named(&text[place.first + 1..place.end - 1]);
+    let field = field_of_bytes(&text[place.first + 1..place.end - 1]);
     Ok(FieldName { place, field })
 }
 

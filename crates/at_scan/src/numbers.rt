@@ -58,7 +58,8 @@ pub fn valued_number(text: &[u8], digits: u8, how: Coords) -> Option<PlainNumber
     if let Some(number) = plain_number(text, Notation::Json, digits, how) {
         return Some(number);
     }
-    other_number(text, digits, how)
+    let PlainNumber { len, value } = other_number(text, digits, how)?;
+    Some(PlainNumber { len, value })
 }
 
 /// The length of the number that begins a text, however it is written, where it has a value.

@@ -5,7 +5,7 @@ ghost use Rattle.at_fixed.specs.NumberSoFar.{between};
 ghost use Rattle.at_text.specs.Texts.{is_space as space_test};
 ghost use Rattle.at_lex.specs.Fronts.{IsFrontAt};
 ghost use Rattle.at_lex.specs.Spans.{AreSpaces};
-ghost use Rattle.at_scan.specs.Places.{is_blank, StandsBehind, IsTextAt, IsNameAt};
+ghost use Rattle.at_scan.specs.Places.{is_blank, IsTextAt, IsNameAt};
 
 use crate::short_texts::{LANES, first_set};
 use at_lex::take_text;
@@ -144,21 +144,53 @@ pub fn skip_spaces(text: &[u8], at: usize) -> usize
     }
 }
 
-/// The place of the byte, where it stands right there or behind white space.
+/// Whether so many blanks stand at the place, of thirty-two at the most.
 #[inline(always)]
-pub fn behind_spaces(text: &[u8], at: usize, b: u8) -> Option<usize>
-    requires { at ≤ length text.now }
-    ensures { IfSome result (StandsBehind text.now at b) }
+fn are_blanks(text: &[u8], at: usize, count: usize) -> bool
+    requires { at + 32 ≤ length text.now }
+    ensures few { result ≡ true → count ≤ 32 }
+    ensures blanks { result ≡ true → AreSpaces (between text.now at (at + count)) }
 {
-    if stands(text, at, b) {
-        return Some(at);
+    let first = blank_lanes(text, at);
+    if count <= first {
+        return true;
     }
-    let place = skip_spaces(text, at);
-    if stands(text, place, b) {
-        Some(place)
-    } else {
-        None
+    if first < LANES || count > 2 * LANES {
+        return false;
     }
+    count - LANES <= blank_lanes(text, at + LANES)
+}
+
+/// Whether so many blanks and no more white space stand at the place. Near the end of the text the answer is no.
+#[inline(always)]
+fn indents(text: &[u8], at: usize, blanks: usize) -> bool
+    requires { at ≤ length text.now }
+    ensures within { result ≡ true → at + blanks ≤ length text.now }
+    ensures spaces { result ≡ true → AreSpaces (between text.now at (at + blanks)) }
+{
+    if text.len() - at <= 2 * LANES {
+        return false;
+    }
+    are_blanks(text, at, blanks) && text[at + blanks] > b' '
+}
+
+/// `skip_spaces` where so many blanks are expected behind a line end, as they stood at a like place before it. Where they
+/// stand there, the place behind them is known without a count of them.
+#[inline(always)]
+pub fn skip_alike(text: &[u8], at: usize, blanks: usize) -> usize
+    requires { at ≤ length text.now }
+    ensures order { at ≤ result }
+    ensures within { result ≤ length text.now }
+    ensures spaces { AreSpaces (between text.now at result) }
+{
+    if at >= text.len() || text[at] > b' ' {
+        return at;
+    }
+    let next = at + 1;
+    if text[at] == b'\n' && indents(text, next, blanks) {
+        return next + blanks;
+    }
+    skip_spaces(text, at)
 }
 
 /// The place of an opening bracket, right there or behind white space.

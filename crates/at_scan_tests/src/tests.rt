@@ -6,10 +6,10 @@ ghost use Rattle.std.specs.List.Sorted.{IsNonDecreasing};
 use at_fixed::Coords;
 use at_scan::{
     Field, Kind, KindRead, NamePlace, OTHER_KIND, OtherNames, Spelling, TableNames, add_other,
-    begins_collection, behind_spaces, brackets_ahead, expect_comma, field_name, field_named,
-    has_hash_among, hash_of, is_coordinates, is_kind, is_other, is_simple, kind_of, known_kind,
-    may_begin, name_bytes, name_place, names_collection, next_name, opening, position_end,
-    repeated, seems_cut, short_text_end, simple_item, simple_item_to_end, skip_spaces, stands,
+    begins_collection, brackets_ahead, expect_comma, field_name, field_named, has_hash_among,
+    hash_of, is_coordinates, is_kind, is_other, is_simple, kind_of, known_kind, may_begin,
+    name_bytes, name_place, names_collection, next_name, opening, position_end, repeated,
+    seems_cut, short_text_end, simple_item, simple_item_to_end, skip_alike, skip_spaces, stands,
     text_end, valued_len, valued_number,
 };
 use at_text::{Halt, Memory};
@@ -36,14 +36,43 @@ fn bytes_and_white_space(rt: HostRuntime) {
     assert_eq!(rt; skip_spaces(text, 5), 5);
     assert_eq!(rt; skip_spaces(b"\n                    \r", 0), 22);
     assert!(rt; stands(text, 5, b',') && !stands(text, 6, b',') && !stands(text, 7, b'x'));
-    assert!(rt; behind_spaces(text, 2, b',') == Some(5) && behind_spaces(text, 5, b',') == Some(5));
-    assert!(rt; behind_spaces(text, 2, b'x').is_none());
     assert!(rt; expect_comma(text, 5) == Ok(()) && expect_comma(text, 6) == Err(Halt::At(6)));
     assert!(rt; opening(b"  [", 0) == Ok(2) && opening(b" {", 0) == Err(Halt::At(1)));
     assert_eq!(rt; brackets_ahead(b"[ [[1", 0), 3);
     assert!(rt;
         seems_cut(text, 0, 2000) && !seems_cut(text, 0, 1000) && !seems_cut(text, 0, OTHER_KIND)
     );
+}
+
+/// A line end, so many blanks, and what stands behind them.
+fn line_of(alloc: Global, blanks: usize, behind: &[u8]) -> Result<Vec<u8>, Memory> {
+    let mut text = Vec::new(alloc);
+    text.push(b'\n')?;
+    for _ in 0..blanks {
+        text.push(b' ')?;
+    }
+    text.extend_from_slice(behind)?;
+    Ok(text)
+}
+
+#[test]
+fn white_space_alike(rt: HostRuntime) -> Result<(), Fail> {
+    let alloc = rt.alloc();
+    let behind: &[u8] = b"1.5,                                 ";
+    for blanks in [0, 1, 15, 16, 17, 31, 32, 33, 40] {
+        let text = line_of(alloc, blanks, behind)?;
+        for expected in [0, 1, 14, 15, 16, 17, 30, 31, 32, 33, 34, 40, 41, usize::MAX] {
+            assert_eq!(rt; skip_alike(text.as_slice(), 0, expected), blanks + 1);
+        }
+        let end = text.len().min(blanks + 1);
+        assert_eq!(rt; skip_alike(text.as_slice(), end, blanks), end);
+    }
+    let short = line_of(alloc, 4, b"[")?;
+    assert_eq!(rt; skip_alike(short.as_slice(), 0, 4), 5);
+    let tabs: &[u8] = b"\r\n\t\t[                                ";
+    assert_eq!(rt; skip_alike(tabs, 0, 2), 4);
+    assert_eq!(rt; skip_alike(tabs, tabs.len(), 2), tabs.len());
+    Ok(())
 }
 
 #[test]

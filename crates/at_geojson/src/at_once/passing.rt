@@ -4,7 +4,7 @@ ghost use Rattle.std.specs.Prelude.{◌≤◌, ◌^◌, length, IfSome};
 ghost use Rattle.at_geojson.specs.Members.{PassesItem, IsScalarAt};
 
 use crate::text::Text;
-use at_fixed::{Notation, plain_len};
+use at_fixed::{Coords, Notation, plain_len};
 use at_lex::take_run;
 use at_scan::{short_text_end, skip_spaces, stands, text_end};
 
@@ -24,14 +24,15 @@ fn pass_string(text: &[u8], at: usize) -> Option<usize>
     }
 }
 
-/// The place behind the number that begins at the place, where it is written plainly and surely has a value.
+/// The place behind the number that begins at the place, where it is written plainly and isn't long. Nobody asks for its
+/// value, so it may have more digits than a coordinate.
 #[inline(always)]
-fn pass_number(text: &Text<'_>, at: usize) -> Option<usize>
-    requires inside { at ≤ length text.now.bytes.now }
-    ensures { IfSome result (IsScalarAt text.now.bytes.now at) }
+fn pass_number(text: &[u8], at: usize) -> Option<usize>
+    requires inside { at ≤ length text.now }
+    requires short { length text.now ≤ 2 ^ 28 }
+    ensures { IfSome result (IsScalarAt text.now at) }
 {
-    let (digits, how) = (text.algebra.digits(), text.algebra.how());
-    let len = plain_len(&text.bytes[at..], Notation::Json, digits, how)?;
+    let len = plain_len(&text[at..], Notation::Json, 0, Coords::Round)?;
     Some(at + len as usize)
 }
 
@@ -58,7 +59,7 @@ fn pass_scalar(text: &Text<'_>, at: usize) -> Option<usize>
     if stands(text.bytes, at, b'"') {
         return pass_string(text.bytes, at);
     }
-    if let Some(end) = pass_number(text, at) {
+    if let Some(end) = pass_number(text.bytes, at) {
         return Some(end);
     }
     if stands(text.bytes, at, b'{') || stands(text.bytes, at, b'[') {
@@ -69,6 +70,7 @@ fn pass_scalar(text: &Text<'_>, at: usize) -> Option<usize>
 }
 
 /// A string, literal or number with white space round it.
+#[inline(always)]
 pub fn pass_item(text: &Text<'_>, at: usize) -> Option<usize>
     requires inside { at ≤ length text.now.bytes.now }
     ensures { IfSome result (PassesItem text.now.algebra.now text.now.bytes.now at) }

@@ -8,20 +8,33 @@ ghost use Rattle.at_geojson.specs.FeatureRuns.{AreItemsWhole};
 ghost use Rattle.at_geojson.specs.PositionRuns.{IsNextPair, PassesNext, IsTrackRead};
 
 use crate::atoms::atom::{GeoAtom, Track, TrackAtom};
-use crate::coordinates::pairs::{PairRead, ROOM, Whole, one_more, pass_spaced, read_spaced};
+use crate::coordinates::pairs::{
+    Margins, PairRead, ROOM, Whole, margins_of, one_more, pass_pair, pass_spaced, read_spaced,
+};
 use crate::text::Text;
 use at_geom::Pos;
 use at_scan::{OTHER_KIND, stands};
 use at_text::Halt;
 use std::alloc::Global;
 
+/// The margins of the position behind the comma at the place, where one stands there.
+fn margins_behind(text: &Text<'_>, at: usize) -> Margins {
+    if !stands(text.bytes, at, b',') {
+        return Margins::UNKNOWN;
+    }
+    match pass_pair(text, at + 1, Margins::UNKNOWN) {
+        Some(place) => margins_of(at, place.bracket, place.x.first),
+        None => Margins::UNKNOWN,
+    }
+}
+
 /// A comma, which stands at the place, and a position with white space round it.
 #[inline(always)]
-fn next_pair(text: &Text<'_>, at: usize) -> Option<PairRead>
+fn next_pair(text: &Text<'_>, at: usize, margins: Margins) -> Option<PairRead>
     ensures { IfSome result (IsNextPair text.now.algebra.now text.now.base text.now.bytes.now at) }
 {
     if stands(text.bytes, at, b',') {
-        read_spaced(text, at + 1)
+        read_spaced(text, at + 1, margins)
     } else {
         None
     }
@@ -29,11 +42,11 @@ fn next_pair(text: &Text<'_>, at: usize) -> Option<PairRead>
 
 /// The same, passed over.
 #[inline(always)]
-fn pass_next(text: &Text<'_>, at: usize) -> Option<usize>
+fn pass_next(text: &Text<'_>, at: usize, margins: Margins) -> Option<usize>
     ensures { IfSome result (PassesNext text.now.algebra.now text.now.bytes.now at) }
 {
     if stands(text.bytes, at, b',') {
-        pass_spaced(text, at + 1)
+        pass_spaced(text, at + 1, margins)
     } else {
         None
     }
@@ -73,9 +86,10 @@ fn keep_positions(text: &Text<'_>, first: PairRead) -> Result<Whole, Halt>
 {
     let mut path = Vec::with_capacity(text.alloc, ROOM)?;
     path.push(first.pair.pos)?;
+    let margins = margins_behind(text, first.end);
     let mut last = first;
     let mut count = 1;
-    'positions: while let Some(next) = next_pair(text, last.end) {
+    'positions: while let Some(next) = next_pair(text, last.end, margins) {
         path.push(next.pair.pos)?;
         count = one_more(count);
         last = next;
@@ -90,7 +104,8 @@ fn pass_positions(text: &Text<'_>, first: PairRead) -> Result<Whole, Halt>
     requires unneeded { needs_of text.now.algebra.now.query ≡ false }
     ensures { IfOk result (AreItemsWhole text.now.algebra.now text.now.base text.now.bytes.now 0) }
 {
-    let Some(mut ahead) = pass_next(text, first.end) else {
+    let margins = margins_behind(text, first.end);
+    let Some(mut ahead) = pass_next(text, first.end, margins) else {
         return Ok(Whole {
             end: first.end,
             atom: GeoAtom::Position(first.pair),
@@ -98,12 +113,12 @@ fn pass_positions(text: &Text<'_>, first: PairRead) -> Result<Whole, Halt>
     };
     let mut end = first.end;
     let mut count = 1;
-    'positions: while let Some(next) = pass_next(text, ahead) {
+    'positions: while let Some(next) = pass_next(text, ahead, margins) {
         count = one_more(count);
         end = ahead;
         ahead = next;
     }
-    match next_pair(text, end) {
+    match next_pair(text, end, margins) {
         Some(last) => track_read(
             text.alloc,
             first,
@@ -119,7 +134,7 @@ fn pass_positions(text: &Text<'_>, first: PairRead) -> Result<Whole, Halt>
 pub fn read_positions(text: &Text<'_>) -> Result<Whole, Halt>
     ensures { IfOk result (AreItemsWhole text.now.algebra.now text.now.base text.now.bytes.now 0) }
 {
-    let Some(first) = read_spaced(text, 0) else {
+    let Some(first) = read_spaced(text, 0, Margins::UNKNOWN) else {
         return Err(Halt::At(OTHER_KIND));
     };
     if text.algebra.needs_shapes() {

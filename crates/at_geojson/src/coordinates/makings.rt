@@ -7,7 +7,7 @@ ghost use Rattle.at_geojson.specs.PlainGeometries.{seen_unless, IsCoordinatesIte
 
 use crate::at_once::plain_geometries::{Seen, SeenRead};
 use crate::coordinates::makers::Maker;
-use crate::coordinates::pairs::one_more;
+use crate::coordinates::pairs::{Margins, margins_of, one_more};
 use crate::coordinates::spots::{Reads, Stretch};
 use crate::text::Text;
 use at_geom::{line_fault, ring_fault};
@@ -60,16 +60,17 @@ pub fn positions<S: Maker>(
     requires opens { slice_index text.now.bytes.now at ≡ 0x5B }
     ensures { IfOk result (MakesLine S.tells before text.now.algebra.now text.now.base text.now.bytes.now at) }
 {
-    let Some(first) = S::Reader::read(text, at + 1) else {
+    let Some(first) = S::Reader::read(text, at + 1, Margins::UNKNOWN) else {
         return Err(Halt::At(at + 1));
     };
+    let margins = margins_of(at, first.bracket, first.number);
     let mut made = S::first(text.alloc, before, first.mark)?;
     let mut last = first;
     let mut place = at + 1;
     let mut count = 1;
     'positions: while !stands(text.bytes, last.end, b']') {
         expect_comma(text.bytes, last.end)?;
-        let Some(next) = S::Reader::read(text, last.end + 1) else {
+        let Some(next) = S::Reader::read(text, last.end + 1, margins) else {
             return Err(Halt::At(last.end));
         };
         S::next(&mut made, last.mark, next.mark)?;
@@ -228,7 +229,7 @@ fn point<S: Maker>(text: &Text<'_>, at: usize) -> Result<SeenRead, Halt>
     requires served { S.serves text.now.algebra.now.query }
     ensures { IfOk result (Sees text.now.algebra.now (IsCoordinatesItem text.now.algebra.now text.now.base text.now.bytes.now at Kind.Point)) }
 {
-    let Some(spot) = S::Reader::read(text, at) else {
+    let Some(spot) = S::Reader::read(text, at, Margins::UNKNOWN) else {
         return Err(Halt::At(at));
     };
     let seen = S::see_points(text.alloc, S::alone(text.alloc, spot.mark)?);

@@ -1,6 +1,6 @@
 //! Positions whose first two numbers have values, read at once.
 
-ghost use Rattle.std.specs.Prelude.{◌≡◌, ℕ, ◌+◌, ◌<◌, ◌≤◌, length, IfSome};
+ghost use Rattle.std.specs.Prelude.{◌≡◌, ℕ, ◌+◌, ◌-◌, ◌<◌, ◌≤◌, length, IfSome};
 ghost use Rattle.at_geojson.specs.Atoms.{to_four};
 ghost use Rattle.at_geojson.specs.Values.{IsPlain, IsPair, IsSpacedPair};
 ghost use Rattle.at_geojson.specs.Passing.{PassesNumber, PassesPair, PassesTo};
@@ -12,7 +12,7 @@ use at_fixed::{
 };
 use at_geom::Pos;
 use at_scan::{
-    behind_spaces, may_begin, position_end, skip_spaces, stands, valued_len, valued_number,
+    may_begin, position_end, skip_alike, skip_spaces, stands, valued_len, valued_number,
 };
 
 /// A value that was read: the place behind it, and its atom.
@@ -59,6 +59,31 @@ pub struct PairRead {
     pub pair: PositionAtom,
 }
 
+/// How many blanks stand behind a line end before each position of a list, and before each number of one. Where positions
+/// are indented, they are so in a like way.
+#[derive(Clone, Copy)]
+pub struct Margins {
+    pub outer: usize,
+    pub inner: usize,
+}
+
+impl Margins {
+    /// Nothing is known of them.
+    pub const UNKNOWN: Margins = Margins { outer: 0, inner: 0 };
+}
+
+/// The margins of a position behind a byte, by the places of that byte, of its bracket and of its first number.
+#[inline(always)]
+pub fn margins_of(before: usize, bracket: usize, number: usize) -> Margins
+    ensures outer { result.outer ≡ bracket - before - 2 }
+    ensures inner { result.inner ≡ number - bracket - 2 }
+{
+    Margins {
+        outer: bracket.saturating_sub(before).saturating_sub(2),
+        inner: number.saturating_sub(bracket).saturating_sub(2),
+    }
+}
+
 /// Positions that were read one behind another: the first, the last, how many they are up to four, and the values of
 /// all of them where shapes are kept.
 #[derive(Drop)]
@@ -74,11 +99,11 @@ pub const ROOM: usize = 5;
 
 /// White space, a number that has a value, and white space.
 #[inline(always)]
-fn read_plain(text: &Text<'_>, at: usize) -> Option<Plain>
+fn read_plain(text: &Text<'_>, at: usize, before: usize, behind: usize) -> Option<Plain>
     requires inside { at ≤ length text.now.bytes.now }
     ensures { IfSome result (IsPlain text.now.algebra.now text.now.bytes.now at) }
 {
-    let first = skip_spaces(text.bytes, at);
+    let first = skip_alike(text.bytes, at, before);
     if !may_begin(text.bytes, first) {
         return None;
     }
@@ -91,24 +116,24 @@ fn read_plain(text: &Text<'_>, at: usize) -> Option<Plain>
     Some(Plain {
         first,
         last,
-        end: skip_spaces(text.bytes, last),
+        end: skip_alike(text.bytes, last, behind),
         number,
     })
 }
 
 /// A position whose first two numbers have values.
 #[inline(always)]
-pub fn read_pair(text: &Text<'_>, at: usize) -> Option<PairRead>
+pub fn read_pair(text: &Text<'_>, at: usize, margins: Margins) -> Option<PairRead>
     ensures { IfSome result (IsPair text.now.algebra.now text.now.base text.now.bytes.now at) }
 {
     if !stands(text.bytes, at, b'[') {
         return None;
     }
-    let x = read_plain(text, at + 1)?;
+    let x = read_plain(text, at + 1, margins.inner, 0)?;
     if !stands(text.bytes, x.end, b',') {
         return None;
     }
-    let y = read_plain(text, x.end + 1)?;
+    let y = read_plain(text, x.end + 1, margins.inner, margins.outer)?;
     let end = position_end(text.bytes, y.end)?;
     Some(PairRead {
         end,
@@ -133,45 +158,48 @@ pub fn one_more(count: u32) -> u32
 
 /// A position, behind white space and before white space.
 #[inline(always)]
-pub fn read_spaced(text: &Text<'_>, at: usize) -> Option<PairRead>
+pub fn read_spaced(text: &Text<'_>, at: usize, margins: Margins) -> Option<PairRead>
     requires inside { at ≤ length text.now.bytes.now }
     ensures { IfSome result (IsSpacedPair text.now.algebra.now text.now.base text.now.bytes.now at) }
 {
-    let first = skip_spaces(text.bytes, at);
-    let PairRead { end, pair } = read_pair(text, first)?;
+    let first = skip_alike(text.bytes, at, margins.outer);
+    let PairRead { end, pair } = read_pair(text, first, margins)?;
     let end = skip_spaces(text.bytes, end);
     Some(PairRead { end, pair })
 }
 
 /// White space, a number that has a value, and white space, passed over.
 #[inline(always)]
-fn pass_plain(text: &Text<'_>, at: usize) -> Option<NumberPlace>
+fn pass_plain(text: &Text<'_>, at: usize, before: usize, behind: usize) -> Option<NumberPlace>
     requires inside { at ≤ length text.now.bytes.now }
     ensures { IfSome result (PassesNumber text.now.algebra.now text.now.bytes.now at) }
 {
-    let first = skip_spaces(text.bytes, at);
+    let first = skip_alike(text.bytes, at, before);
     let len = valued_len(
         &text.bytes[first..],
         text.algebra.digits(),
         text.algebra.how(),
     )?;
     let last = first + len as usize;
-    let end = skip_spaces(text.bytes, last);
+    let end = skip_alike(text.bytes, last, behind);
     Some(NumberPlace { first, last, end })
 }
 
 /// A position whose first two numbers have values, behind white space and before white space, passed over.
 #[inline(always)]
-pub fn pass_pair(text: &Text<'_>, at: usize) -> Option<PairPlace>
+pub fn pass_pair(text: &Text<'_>, at: usize, margins: Margins) -> Option<PairPlace>
     requires inside { at ≤ length text.now.bytes.now }
     ensures { IfSome result (PassesPair text.now.algebra.now text.now.bytes.now at) }
 {
-    let bracket = behind_spaces(text.bytes, at, b'[')?;
-    let x = pass_plain(text, bracket + 1)?;
+    let bracket = skip_alike(text.bytes, at, margins.outer);
+    if !stands(text.bytes, bracket, b'[') {
+        return None;
+    }
+    let x = pass_plain(text, bracket + 1, margins.inner, 0)?;
     if !stands(text.bytes, x.end, b',') {
         return None;
     }
-    let y = pass_plain(text, x.end + 1)?;
+    let y = pass_plain(text, x.end + 1, margins.inner, margins.outer)?;
     let close = position_end(text.bytes, y.end)?;
     let end = skip_spaces(text.bytes, close);
     Some(PairPlace {
@@ -185,10 +213,10 @@ pub fn pass_pair(text: &Text<'_>, at: usize) -> Option<PairPlace>
 
 /// The place behind a position that is passed over.
 #[inline(always)]
-pub fn pass_spaced(text: &Text<'_>, at: usize) -> Option<usize>
+pub fn pass_spaced(text: &Text<'_>, at: usize, margins: Margins) -> Option<usize>
     requires inside { at ≤ length text.now.bytes.now }
     ensures { IfSome result (PassesTo text.now.algebra.now text.now.bytes.now at) }
 {
-    let place = pass_pair(text, at)?;
+    let place = pass_pair(text, at, margins)?;
     Some(place.end)
 }

@@ -7,14 +7,16 @@ ghost use Rattle.at_query.specs.Keeping.{Asked};
 ghost use Rattle.at_geojson.specs.Passing.{same_values};
 ghost use Rattle.at_geojson.specs.Makings.{ReadsSpot, IsValue, IsAnywhere, IsPassedOver};
 
-use crate::coordinates::pairs::{pass_pair, read_spaced};
+use crate::coordinates::pairs::{Margins, pass_pair, read_spaced};
 use crate::text::Text;
 use at_geom::Pos;
 
-/// A position that was read, with white space round it: the place of its bracket, the one behind it, and its mark.
+/// A position that was read, with white space round it: the place of its bracket and of its first number, the one behind
+/// it, and its mark.
 #[derive(Clone, Copy)]
 pub struct Spot<M> {
     pub bracket: usize,
+    pub number: usize,
     pub end: usize,
     pub mark: M,
 }
@@ -37,8 +39,8 @@ pub trait Reads {
     /// A position of this value stands in the text from one place up to another.
     ghost stands: { Asked → List ℕ → ℕ → ℕ → Pos → Type 0 };
 
-    /// White space, a position and white space.
-    fn read(text: &Text<'_>, at: usize) -> Option<Spot<Self::Mark>>
+    /// White space, a position and white space, where margins are as wide as these as a rule.
+    fn read(text: &Text<'_>, at: usize, margins: Margins) -> Option<Spot<Self::Mark>>
         requires inside { at ≤ length text.now.bytes.now }
         ensures { IfSome result (ReadsSpot marks (stands text.now.algebra.now text.now.bytes.now at) text.now.algebra.now text.now.base text.now.bytes.now at) };
 
@@ -82,10 +84,11 @@ impl Reads for ByValue {
     ghost stands = { IsAnywhere };
 
     #[inline(always)]
-    fn read(text: &Text<'_>, at: usize) -> Option<Spot<Pos>> {
-        let read = read_spaced(text, at)?;
+    fn read(text: &Text<'_>, at: usize, margins: Margins) -> Option<Spot<Pos>> {
+        let read = read_spaced(text, at, margins)?;
         Some(Spot {
             bracket: (read.pair.at - text.base) as usize,
+            number: read.pair.least.saturating_sub(text.base) as usize,
             end: read.end,
             mark: read.pair.pos,
         })
@@ -111,10 +114,11 @@ impl Reads for ByPlace {
     ghost stands = { IsPassedOver };
 
     #[inline(always)]
-    fn read(text: &Text<'_>, at: usize) -> Option<Spot<()>> {
-        let place = pass_pair(text, at)?;
+    fn read(text: &Text<'_>, at: usize, margins: Margins) -> Option<Spot<()>> {
+        let place = pass_pair(text, at, margins)?;
         Some(Spot {
             bracket: place.bracket,
+            number: place.x.first,
             end: place.end,
             mark: (),
         })
@@ -132,8 +136,8 @@ impl Reads for ByPlace {
         if text.bytes[first.from..first.to] == text.bytes[last.from..last.to] {
             return Some(true);
         }
-        let one = read_spaced(text, first.from)?;
-        let other = read_spaced(text, last.from)?;
+        let one = read_spaced(text, first.from, Margins::UNKNOWN)?;
+        let other = read_spaced(text, last.from, Margins::UNKNOWN)?;
         if one.end != first.to {
             return None;
         }

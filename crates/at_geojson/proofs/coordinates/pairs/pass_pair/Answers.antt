@@ -9,13 +9,13 @@ returns c =
     let ends = c.in_ok-close.ensures in (
       record { x = vx; y = vy },
       record {
-        before = c.in_ok-bracket.ensures.order;
-        spaces = c.in_ok-bracket.ensures.spaces;
-        inside = c.in_ok-bracket.ensures.inside;
-        opens = c.in_ok-bracket.ensures.byte;
+        before = c.skip_alike-bracket.ensures.order;
+        spaces = c.skip_alike-bracket.ensures.spaces;
+        inside = c.stands.ensures.inside c.if-not-stands.false;
+        opens = c.stands.ensures.byte c.if-not-stands.false;
         x = px;
-        middle = c.stands.ensures.inside c.if-not-stands.false;
-        comma = c.stands.ensures.byte c.if-not-stands.false;
+        middle = c.stands-2.ensures.inside c.if-not-stands-2.false;
+        comma = c.stands-2.ensures.byte c.if-not-stands-2.false;
         y = py;
         last = omega (arith, ends.order, ends.behind);
         closes = ends;

@@ -6,17 +6,17 @@ use Rattle.at_geojson.proofs.coordinates.pairs.pass_plain.Goals as goal
 
 pub returns : goal.returns
 returns c =
-    let w = c.args.text.now.bytes.now in let first = c.skip_spaces-first.result in let len = c.in_ok-len.len in
+    let w = c.args.text.now.bytes.now in let first = c.skip_alike-first.result in let len = c.in_ok-len.len in
     let (v, f) = c.in_ok-len.ensures.value in
-    let t = number_taken w first (record { len = len; whole = true }) c.skip_spaces-first.ensures.within c.in_ok-len.ensures.taken refl in (
+    let t = number_taken w first (record { len = len; whole = true }) c.skip_alike-first.ensures.within c.in_ok-len.ensures.taken refl in (
       v,
       record {
-        before = c.skip_spaces-first.ensures.order;
-        spaces = c.skip_spaces-first.ensures.spaces;
+        before = c.skip_alike-first.ensures.order;
+        spaces = c.skip_alike-first.ensures.spaces;
         order = t.order;
-        behind = c.skip_spaces-end.ensures.order;
-        more_spaces = c.skip_spaces-end.ensures.spaces;
-        within = c.skip_spaces-end.ensures.within;
+        behind = c.skip_alike-end.ensures.order;
+        more_spaces = c.skip_alike-end.ensures.spaces;
+        within = c.skip_alike-end.ensures.within;
         number = t.word;
         value = value_taken w first len c.digits.result c.how.result c.args.text.now.algebra.now v c.digits.ensures c.how.ensures f;
       },

@@ -6,15 +6,15 @@ use Rattle.at_geojson.proofs.coordinates.pairs.read_plain.Goals as goal
 
 pub returns : goal.returns
 returns c =
-    let w = c.args.text.now.bytes.now in let first = c.skip_spaces-first.result in let number = c.in_ok-number.number in
-    let t = number_taken w first (record { len = number.len; whole = true }) c.skip_spaces-first.ensures.within c.in_ok-number.ensures.taken refl in
+    let w = c.args.text.now.bytes.now in let first = c.skip_alike-first.result in let number = c.in_ok-number.number in
+    let t = number_taken w first (record { len = number.len; whole = true }) c.skip_alike-first.ensures.within c.in_ok-number.ensures.taken refl in
     record {
-      before = c.skip_spaces-first.ensures.order;
-      spaces = c.skip_spaces-first.ensures.spaces;
+      before = c.skip_alike-first.ensures.order;
+      spaces = c.skip_alike-first.ensures.spaces;
       order = t.order;
-      behind = c.skip_spaces.ensures.order;
-      more_spaces = c.skip_spaces.ensures.spaces;
-      within = c.skip_spaces.ensures.within;
+      behind = c.skip_alike.ensures.order;
+      more_spaces = c.skip_alike.ensures.spaces;
+      within = c.skip_alike.ensures.within;
       number = t.word;
       value = value_taken w first number.len c.digits.result c.how.result c.args.text.now.algebra.now number.value c.digits.ensures c.how.ensures c.in_ok-number.ensures.value;
     }
