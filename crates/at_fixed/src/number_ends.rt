@@ -1,6 +1,7 @@
 //! Where numbers end that are written plainly and surely have a value: for callers that don't use the value.
 
-ghost use Rattle.std.specs.Prelude.{◌≡◌, ◌+◌, ◌^◌, ◌<◌, ◌≤◌, IfSome, IsTrue, length, slice_index};
+ghost use Rattle.std.specs.Prelude.{◌≡◌, ◌⊎◌, ℕ, ◌+◌, ◌^◌, ◌<◌, ◌≤◌, IfSome, IsTrue, length, slice_index};
+ghost use Rattle.at_fixed.specs.declared.rounding.Coords.TheVariants.{Round};
 ghost use Rattle.at_fixed.specs.Scans.{AreEnds, EndsRun, IsNumberEnd, IsLead, SurelyFits};
 ghost use Rattle.at_fixed.specs.Scanned.{IsValued};
 ghost use Rattle.at_fixed.specs.States.{is_letter};
@@ -24,7 +25,7 @@ pub fn is_lead(text: &[u8], from: usize, end: usize, notation: Notation) -> bool
     ensures { IsTrue result → (from < end) × IsLead notation text.now from end }
 {
     let count = end - from;
-    count > 0 && (count == 1 || !is_lone_zero(text, from, notation))
+    count > 0 && (!is_lone_zero(text, from, notation) || count == 1)
 }
 
 /// How far a number reaches, up to its exponent, whose parts end there.
@@ -55,6 +56,17 @@ fn number_end(text: &[u8], ends: Ends, notation: Notation) -> Option<NumberEnd>
     })
 }
 
+/// How many digits a number may have behind its point.
+#[inline(always)]
+fn most_decimals(digits: u8, how: Coords) -> usize
+    ensures { (fraction : ℕ) → fraction ≤ result → (how ≡ Round) ⊎ (fraction ≤ digits) }
+{
+    match how {
+        Coords::Exact => digits as usize,
+        Coords::Round => usize::MAX,
+    }
+}
+
 /// Whether a number of so many bytes, of which so many are digits behind its point, surely has a value.
 #[inline(always)]
 fn surely_fits(number: NumberEnd, digits: u8, how: Coords) -> bool
@@ -62,13 +74,8 @@ fn surely_fits(number: NumberEnd, digits: u8, how: Coords) -> bool
     requires few { number.end ≤ 2 ^ 28 }
     ensures { IsTrue result → SurelyFits number.end number.fraction digits how }
 {
-    if number.end - number.fraction + digits as usize > 14 {
-        return false;
-    }
-    match how {
-        Coords::Exact => number.fraction <= digits as usize,
-        Coords::Round => true,
-    }
+    number.end - number.fraction + digits as usize <= 14
+        && number.fraction <= most_decimals(digits, how)
 }
 
 /// Whether the letter of an exponent stands at a place of the text.

@@ -13,7 +13,7 @@ use Rattle.at_geojson.specs.declared.atoms.atom.ItemsAtom.{ItemsAtom}
 use Rattle.at_geojson.specs.declared.atoms.atom.Role.TheVariants as roles
 use Rattle.at_geojson.specs.Coordinates.{position_of, positions_of, lists_of, area_of, areas_of}
 use Rattle.at_geojson.specs.Roles.{texts_of, geometry_reading, items_reading, item_reading}
-use Rattle.at_wkt.specs.Meaning.{empty_shape}
+use Rattle.at_geom.specs.Shapes.{empty_shape}
 use Rattle.at_geojson.specs.Atoms.{twin_of, at_of, as_run, is_null, is_empty, as_kind, as_text, as_geometries, as_features, both_forms, as_number, as_position, as_points, as_lists, as_area, as_areas, role_of, role_geometry, role_item, as_texts, HasShape, HasPart, Alike, IsPosition, IsPoints, IsLists, IsArea, IsAreas, IsObject, IsScalar, IsRoot, items_features, IsRead}
 use Rattle.at_geojson.proofs.CoordinateFolds.{alike_at}
 

@@ -13,7 +13,7 @@ use Rattle.at_fixed.specs.Numerals.{Numeral}
 use Rattle.at_geom.specs.declared.positions.Pos.{Pos}
 use Rattle.at_geom.specs.Shapes.{line_fault, ring_fault}
 use Rattle.at_geom.specs.Closed.{last_of}
-use Rattle.at_wkt.proofs.FaultOrder.{first_of-append}
+use Rattle.at_text.proofs.FaultOrder.{first_of-append}
 use Rattle.at_wkt.specs.Positions.{Position, Positions, number_fault as fault_at_number, position_faults, items_faults, faults_of_line, faults_of_ring, pos_of, path_of, is_faultless, closes_with as positions_close, is_closed}
 use Rattle.at_wkt.specs.Meaning.{polygons_of, faults_of_area}
 use Rattle.at_nest.specs.Folds.{AreFolds}

@@ -7,7 +7,7 @@ use Rattle.std.proofs.lemmas.Option.{none-some}
 use Rattle.std.proofs.lemmas.List.Concat.{flat_map-cons}
 use Rattle.at_text.specs.Faults.{comes_first, first_fault, first_of}
 use Rattle.at_text.specs.declared.faults.Fault.{Fault}
-use Rattle.at_wkt.proofs.FaultOrder.{first_of-append}
+use Rattle.at_text.proofs.FaultOrder.{first_of-append}
 use Rattle.at_nest.specs.Folds.{AreFolds}
 use Rattle.at_nest.specs.Tree.{Tree, Trees, no_trees, tree_and}
 use Rattle.at_nest.specs.Twins.{twins_of, twins_of_items}

@@ -4,7 +4,7 @@ use Rattle.std.proofs.Common.{◌≡◌, Bool, true, false, if◌then◌else◌,
 use Rattle.std.proofs.lemmas.Option.{none-some}
 use Rattle.at_text.specs.Faults.{comes_first, first_fault, first_of}
 use Rattle.at_text.specs.declared.faults.Fault.{Fault}
-use Rattle.at_wkt.proofs.FaultOrder.{first_fault-assoc, none_right}
+use Rattle.at_text.proofs.FaultOrder.{first_fault-assoc, none_right}
 use Rattle.at_geojson.specs.Gathering.{firsts}
 
 module _ {X : Type 0} (f : X → Option Fault) where

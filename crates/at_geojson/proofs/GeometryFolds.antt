@@ -12,7 +12,8 @@ use Rattle.at_geom.specs.declared.shapes.Polygon.{Polygon}
 use Rattle.at_geom.specs.declared.shapes.Shape.{Shape}
 use Rattle.at_wkt.specs.Positions.{Positions, items_faults, position_faults, faults_of_line, faults_of_ring, pos_of, path_of}
 use Rattle.at_wkt.specs.Geometry as wkt
-use Rattle.at_wkt.specs.Meaning.{empty_shape, of_points, of_lines, of_polygons, present, polygons_of, faults_of_area, shape_of, faults_of}
+use Rattle.at_geom.specs.Shapes.{empty_shape, of_points, of_lines, of_polygons}
+use Rattle.at_wkt.specs.Meaning.{present, polygons_of, faults_of_area, shape_of, faults_of}
 use Rattle.at_nest.specs.Tree.{Tree, array, object, Trees, no_trees, tree_and, offset_of}
 use Rattle.at_scan.specs.declared.kinds.Kind.{Kind}
 use Rattle.at_scan.specs.declared.kinds.Kind.TheVariants as kinds

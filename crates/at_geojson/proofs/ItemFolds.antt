@@ -6,8 +6,8 @@ use Rattle.at_text.specs.declared.faults.Fault.{Fault}
 use Rattle.at_geom.specs.declared.positions.Pos.{Pos}
 use Rattle.at_geom.specs.declared.shapes.Polygon.{Polygon}
 use Rattle.at_geom.specs.declared.shapes.Shape.{Shape}
-use Rattle.at_wkt.specs.Meaning.{both, empty_shape}
-use Rattle.at_wkt.proofs.FaultOrder.{first_of-append}
+use Rattle.at_geom.specs.Shapes.{both, empty_shape}
+use Rattle.at_text.proofs.FaultOrder.{first_of-append}
 use Rattle.at_nest.specs.Folds.{trees, AreFolds, Covers, AreItemFolds}
 use Rattle.at_nest.specs.Tree.{Tree, Trees, no_trees, tree_and}
 use Rattle.at_query.specs.declared.features.Feature.{Feature}

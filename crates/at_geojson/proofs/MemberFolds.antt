@@ -5,7 +5,7 @@ use Rattle.std.proofs.lemmas.List.Folds.{list_any-append}
 use Rattle.at_text.specs.Faults.{first_fault, first_of, fault_at}
 use Rattle.at_text.specs.declared.faults.Fault.{Fault}
 use Rattle.at_text.specs.declared.faults.FaultKind.TheVariants.{Twin}
-use Rattle.at_wkt.proofs.FaultOrder.{first_fault-assoc, first_of-append}
+use Rattle.at_text.proofs.FaultOrder.{first_fault-assoc, first_of-append}
 use Rattle.at_lex.specs.Strings.{units_of}
 use Rattle.at_nest.specs.declared.algebra.Member.{Member}
 use Rattle.at_nest.specs.Folds.{AreMemberFolds}

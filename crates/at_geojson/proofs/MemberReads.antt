@@ -11,7 +11,7 @@ use Rattle.at_query.specs.declared.query.queries.Test.{Test}
 use Rattle.at_query.specs.declared.query.queries.Test.TheVariants.{InBox, MeetsShape, Has}
 use Rattle.at_query.specs.declared.features.TextPair.{TextPair}
 use Rattle.at_query.specs.Keeping.{Asked, looks_at_texts, asks_pair}
-use Rattle.at_wkt.proofs.FaultOrder.{none_right}
+use Rattle.at_text.proofs.FaultOrder.{none_right}
 use Rattle.at_scan.specs.declared.fields.Field.{Field}
 use Rattle.at_scan.specs.declared.places.NamePlace.{NamePlace}
 use Rattle.at_scan.specs.declared.members.FieldName.{FieldName}

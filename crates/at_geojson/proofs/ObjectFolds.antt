@@ -5,8 +5,8 @@ use Rattle.std.proofs.lemmas.Bool.{true≢false}
 use Rattle.at_text.specs.Faults.{first_fault, first_of, fault_at}
 use Rattle.at_text.specs.declared.faults.Fault.{Fault}
 use Rattle.at_text.specs.declared.faults.FaultKind.TheVariants.{Form}
-use Rattle.at_wkt.proofs.FaultOrder.{first_of-append}
-use Rattle.at_wkt.specs.Meaning.{empty_shape}
+use Rattle.at_text.proofs.FaultOrder.{first_of-append}
+use Rattle.at_geom.specs.Shapes.{empty_shape}
 use Rattle.at_geom.specs.declared.shapes.Shape.{Shape}
 use Rattle.at_lex.specs.Strings.{Character, units_of}
 use Rattle.at_lex.specs.Runs.{the_null, the_true, the_false}

@@ -13,7 +13,7 @@ use Rattle.at_geom.specs.Shapes.{ArePathsInRange, ArePolygonsInRange, IsShapeInR
 use Rattle.at_query.specs.declared.answer.parts.Part.{Part}
 use Rattle.at_query.specs.Keeping.{Asked, needs_shapes, kept}
 use Rattle.at_query.proofs.ShapeRanges.{nothing_in, points_in, lines_in, polygons_in}
-use Rattle.at_wkt.specs.Meaning.{empty_shape, of_points, of_lines, of_polygons}
+use Rattle.at_geom.specs.Shapes.{empty_shape, of_points, of_lines, of_polygons}
 use Rattle.at_nest.specs.declared.algebra.Member.{Member}
 use Rattle.at_scan.specs.declared.kinds.Kind.{Kind}
 use Rattle.at_scan.specs.declared.kinds.Kind.TheVariants as kinds

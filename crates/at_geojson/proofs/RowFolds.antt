@@ -14,7 +14,7 @@ use Rattle.at_nest.specs.Tree.{array, Spells}
 use Rattle.at_nest.specs.Folds.{AreFolds}
 use Rattle.at_nest.specs.Passing.{items_of}
 use Rattle.at_nest.proofs.Passed.{items_none, items_on, items_end}
-use Rattle.at_wkt.proofs.FaultOrder.{none_right}
+use Rattle.at_text.proofs.FaultOrder.{none_right}
 use Rattle.at_query.specs.Keeping.{Asked, kept, needs_shapes}
 use Rattle.at_geojson.specs.declared.atoms.atom.GeoAtom.{GeoAtom}
 use Rattle.at_geojson.specs.declared.atoms.atom.GeoAtom.TheVariants as atoms

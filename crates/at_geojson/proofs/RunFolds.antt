@@ -11,7 +11,7 @@ use Rattle.std.proofs.lemmas.List.Folds.{list_any-append}
 use Rattle.std.proofs.lemmas.Option.{none-some}
 use Rattle.at_text.specs.Faults.{first_fault, first_of}
 use Rattle.at_text.specs.declared.faults.Fault.{Fault}
-use Rattle.at_wkt.proofs.FaultOrder.{first_of-append}
+use Rattle.at_text.proofs.FaultOrder.{first_of-append}
 use Rattle.at_nest.specs.Folds.{trees, AreFolds, Covers, AreItemFolds, HasBrackets}
 use Rattle.at_nest.specs.Tree.{Tree, array, object, Members}
 use Rattle.at_nest.specs.Twins.{twins_of, twins_of_items}

@@ -8,7 +8,7 @@ use Rattle.at_lex.specs.Spans.{AreSpaces}
 use Rattle.at_geom.specs.declared.positions.Pos.{Pos}
 use Rattle.at_geom.specs.declared.shapes.Polygon.{Polygon}
 use Rattle.at_geom.specs.declared.shapes.Shape.{Shape}
-use Rattle.at_wkt.specs.Meaning.{of_points, of_lines, of_polygons}
+use Rattle.at_geom.specs.Shapes.{of_points, of_lines, of_polygons}
 use Rattle.at_scan.specs.declared.kinds.Kind.TheVariants as kinds
 use Rattle.at_query.specs.Keeping.{Asked, kept, needs_shapes}
 use Rattle.at_geojson.specs.declared.atoms.atom.GeoAtom.TheVariants as atoms

@@ -13,7 +13,7 @@ use Rattle.at_text.specs.declared.faults.Fault.{Fault}
 use Rattle.at_geom.specs.declared.positions.Pos.{Pos}
 use Rattle.at_geom.specs.Segments.{IsInRange}
 use Rattle.at_geom.specs.Shapes.{ArePathsInRange}
-use Rattle.at_wkt.proofs.FaultOrder.{first_of-append}
+use Rattle.at_text.proofs.FaultOrder.{first_of-append}
 use Rattle.at_wkt.specs.Positions.{Positions, faults_of_line, faults_of_ring, path_of as positions_path}
 use Rattle.at_nest.specs.Folds.{trees, Covers, AreItemFolds}
 use Rattle.at_nest.specs.Tree.{Tree, array}

@@ -8,7 +8,7 @@ use Rattle.at_text.specs.declared.faults.FaultKind.TheVariants.{Twin}
 use Rattle.at_fixed.specs.declared.rounding.Coords.{Coords}
 use Rattle.at_wkt.specs.Geometry.{Geometry}
 use Rattle.at_wkt.specs.Meaning.{faults_of, shape_of}
-use Rattle.at_wkt.proofs.FaultOrder.{first_of-append}
+use Rattle.at_text.proofs.FaultOrder.{first_of-append}
 use Rattle.at_lex.specs.Strings.{units_of}
 use Rattle.at_lex.specs.Runs.{the_null, the_true, the_false}
 use Rattle.at_query.proofs.QueryParts.{fourth_of}

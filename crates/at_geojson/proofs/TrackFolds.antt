@@ -15,7 +15,7 @@ use Rattle.at_geom.specs.declared.positions.Pos.{Pos}
 use Rattle.at_geom.specs.Segments.{IsInRange}
 use Rattle.at_geom.specs.Shapes.{line_fault, ring_fault}
 use Rattle.at_geom.specs.Closed.{last_of}
-use Rattle.at_wkt.proofs.FaultOrder.{first_of-append}
+use Rattle.at_text.proofs.FaultOrder.{first_of-append}
 use Rattle.at_wkt.specs.Positions.{Position, position_faults, items_faults, pos_of, is_faultless, closes_with}
 use Rattle.at_nest.specs.Folds.{trees, Covers, AreItemFolds}
 use Rattle.at_nest.specs.Tree.{Tree, array}

@@ -12,7 +12,7 @@ use Rattle.std.proofs.lemmas.List.Sums.{sum_by-cons, sum_by-take-le, count_by_mo
 use Rattle.std.proofs.lemmas.Slice.Eq.{bytes_eq-Decides}
 use Rattle.at_text.specs.Faults.{first_fault}
 use Rattle.at_text.specs.declared.faults.Fault.{Fault}
-use Rattle.at_wkt.proofs.FaultOrder.{first_fault-assoc}
+use Rattle.at_text.proofs.FaultOrder.{first_fault-assoc}
 use Rattle.at_nest.specs.declared.algebra.Member.{Member}
 use Rattle.at_scan.specs.Hashes.{name_hash, times, HaveRepeated}
 use Rattle.at_geojson.specs.declared.atoms.atom.GeoAtom.{GeoAtom}

@@ -271,27 +271,27 @@ module _ (asked : Asked) (base : ℕ) (w : List ℕ) where
         folds = folds_last (x ∷ y ∷ h.rest) n.atom (h.done ++ h.last ∷ []) n.tree h.folds n.fold;
       })
 
-  pub pair_read : (at : ℕ) (x y : Plain) (left right : ℤ) → left ≡ x.number.value → right ≡ y.number.value → at < length w → slice_index w at ≡ 0x5B → IsPlain asked w (at + 1) x → x.end < length w → slice_index w x.end ≡ 0x2C
-      → IsPlain asked w (x.end + 1) y → (end : ℕ) → EndsPosition w y.end end
+  pub pair_read : (at : ℕ) (x y : Plain) (left right : ℤ) → left ≡ x.number.value → right ≡ y.number.value → at < length w → slice_index w at ≡ 0x5B → IsPlain asked w (at + 1) x
+      → (comma : ℕ) → x.last ≤ comma → AreSpaces (between w x.last comma) → slice_index w comma ≡ 0x2C → IsPlain asked w (comma + 1) y → (end : ℕ) → EndsPosition w y.last end
       → IsPair asked base w at (record { end = end; pair = record { at = base + at; least = base + x.first; pos = record { x = left; y = right } } })
-  pair_read at x y left right el er inside opens px ix comma py end ends =
+  pair_read at x y left right el er inside opens px place order spaces comma py end ends =
       let nx = valued x.first x.last left x.number.value el px.number px.value in
       let ny = valued y.first y.last right y.number.value er py.number py.value in
       let a : NumberAtom = record { at = base + x.first; value = left } in
       let b : NumberAtom = record { at = base + y.first; value = right } in
       let tx = number (base + x.first) nx.numeral in let ty = number (base + y.first) ny.numeral in
       let r : GeoAtom = atoms.Position (record { at = base + at; least = base + x.first; pos = record { x = left; y = right } }) in
-      let one : IsPadded (λ j v. Spells j v tx) base w (at + 1) x.end = record { first = x.first; last = x.last; before = px.before; order = omega (arith, px.order); behind = px.behind; spaces = px.spaces; is_part = nx.spells; more_spaces = px.more_spaces } in
-      let two : IsPadded (λ j v. Spells j v ty) base w (x.end + 1) y.end = record { first = y.first; last = y.last; before = py.before; order = omega (arith, py.order); behind = py.behind; spaces = py.spaces; is_part = ny.spells; more_spaces = py.more_spaces } in
-      let first = items_on base w at (at + 1) x.end [] tx (omega arith) (omega (arith, px.before, px.order, px.behind)) ix comma (items_none base w at inside) one in
-      let h = further_read at a.at (atoms.Number a) (atoms.Number b) y.end ends.places ends.place ends.further (record {
+      let one : IsPadded (λ j v. Spells j v tx) base w (at + 1) place = record { first = x.first; last = x.last; before = px.before; order = omega (arith, px.order); behind = order; spaces = px.spaces; is_part = nx.spells; more_spaces = spaces } in
+      let two : IsPadded (λ j v. Spells j v ty) base w (place + 1) ends.first = record { first = y.first; last = y.last; before = py.before; order = omega (arith, py.order); behind = ends.before; spaces = py.spaces; is_part = ny.spells; more_spaces = ends.spaces } in
+      let first = items_on base w at (at + 1) place [] tx (omega arith) (omega (arith, px.before, px.order, order)) (omega (arith, py.before, py.order, py.within)) comma (items_none base w at inside) one in
+      let h = further_read at a.at (atoms.Number a) (atoms.Number b) ends.first ends.places ends.place ends.further (record {
         rest = [];
         numbers = tt;
         own = All-cons (IsOwn asked) (atoms.Number a) (atoms.Number b ∷ []) (own_number asked a nx.numeral nx.value) (All-cons (IsOwn asked) (atoms.Number b) [] (own_number asked b ny.numeral ny.value) (All-nil (IsOwn asked)));
-        place = x.end + 1;
-        order = omega (arith, px.before, px.order, px.behind);
-        behind = omega (arith, py.before, py.order, py.behind);
-        begins = omega (arith, px.order, px.behind, py.before, py.order, py.behind);
+        place = place + 1;
+        order = omega (arith, px.before, px.order, order);
+        behind = omega (arith, py.before, py.order, ends.before);
+        begins = omega (arith, px.order, order, py.before, py.order, ends.before);
         done = tx ∷ [];
         last = ty;
         before = first;
@@ -300,7 +300,7 @@ module _ (asked : Asked) (base : ℕ) (w : List ℕ) where
       }) in
       let items : List GeoAtom = atoms.Number a ∷ atoms.Number b ∷ h.rest in
       let l1 : a.at ≤ a.at = omega arith in
-      let l2 : a.at ≤ b.at = omega (arith, px.order, px.behind, py.before) in
+      let l2 : a.at ≤ b.at = omega (arith, px.order, order, py.before) in
       let start : min (min a.at a.at) b.at ≡ a.at = ap (λ z. min z b.at) (min-eq_left l1) ∙ min-eq_left l2 in
       let least : least_of items ≡ base + x.first = ap (λ n. fold (λ least c. min least (at_of c)) n h.rest) start ∙ numbers_least a.at h.rest h.numbers in
       let made : pair_atom (base + at) (least_of items) items ≡ Some r = ap (λ n. Some (atoms.Position (record { at = base + at; least = n; pos = record { x = left; y = right } }))) least in
@@ -308,7 +308,7 @@ module _ (asked : Asked) (base : ℕ) (w : List ℕ) where
       let twins : firsts twin_of items ≡ None = firsts-cons twin_of (atoms.Number a) (atoms.Number b ∷ h.rest) ∙ (firsts-cons twin_of (atoms.Number b) h.rest ∙ numbers_twins a.at h.rest h.numbers) in
       let ts = items_of (h.done ++ h.last ∷ []) in
       record {
-        order = omega (arith, px.before, px.order, px.behind, py.before, py.order, py.behind, ends.order, ends.behind);
+        order = omega (arith, px.before, px.order, order, py.before, py.order, ends.before, ends.order, ends.behind);
         within = omega (arith, ends.inside, ends.behind);
         at_is = refl;
         own = pair_own asked (base + at) (least_of items) items r h.own made;

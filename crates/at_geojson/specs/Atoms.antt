@@ -17,7 +17,8 @@ use Rattle.at_geom.specs.Shapes.{line_fault, ring_fault, ArePathsInRange, ArePol
 use Rattle.at_geom.specs.Closed.{last_of}
 use Rattle.at_wkt.specs.Positions.{Position, Positions, is_faultless, number_fault, value_of, position_faults}
 use Rattle.at_wkt.specs.Positions.{items_faults, faults_of_line, faults_of_ring, pos_of, path_of}
-use Rattle.at_wkt.specs.Meaning.{empty_shape, polygons_of, faults_of_area}
+use Rattle.at_geom.specs.Shapes.{empty_shape}
+use Rattle.at_wkt.specs.Meaning.{polygons_of, faults_of_area}
 use Rattle.at_nest.specs.Tree.{Tree, literal, array, object, Trees, Members, offset_of}
 use Rattle.at_nest.specs.Folds.{trees}
 use Rattle.at_nest.specs.KeptItems.{Content, OwnAtom}

@@ -13,7 +13,7 @@ use Rattle.at_text.specs.declared.faults.FaultKind.TheVariants.{Twin}
 use Rattle.at_geom.specs.declared.positions.Pos.{Pos}
 use Rattle.at_geom.specs.declared.shapes.Polygon.{Polygon}
 use Rattle.at_geom.specs.declared.shapes.Shape.{Shape}
-use Rattle.at_wkt.specs.Meaning.{both}
+use Rattle.at_geom.specs.Shapes.{both}
 use Rattle.at_query.specs.declared.answer.parts.Part.{Part}
 use Rattle.at_query.specs.Parts.{AreAlike, JoinsParts}
 use Rattle.at_query.specs.Keeping.{kept}

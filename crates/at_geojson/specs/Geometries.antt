@@ -4,7 +4,7 @@ use Rattle.std.specs.Prelude.{reverse, Option, Some, None}
 use Rattle.std.specs.declared.boxed.Box.{Box}
 use Rattle.std.specs.declared.alloc.Global.{Global}
 use Rattle.at_geom.specs.declared.shapes.Shape.{Shape}
-use Rattle.at_wkt.specs.Meaning.{both}
+use Rattle.at_geom.specs.Shapes.{both}
 
 abbrev pub turned : Shape → Shape
 turned s = record { points = reverse s.points; lines = reverse s.lines; polygons = reverse s.polygons }

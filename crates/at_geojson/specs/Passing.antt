@@ -15,7 +15,7 @@ use Rattle.at_geojson.specs.Values.{IsPlain}
 
 -- the number that stands there, with this value
 abbrev pub plain_at : NumberPlace → ℤ → Plain
-plain_at n v = record { first = n.first; last = n.last; end = n.end; number = record { len = 0; value = v } }
+plain_at n v = record { first = n.first; last = n.last; number = record { len = 0; value = v } }
 
 -- a number with some value stands there
 abbrev pub PassesNumber : Asked → List ℕ → ℕ → NumberPlace → Type 0
@@ -28,11 +28,12 @@ pub record IsPairAt (asked : Asked) (w : List ℕ) (at : ℕ) (p : PairPlace) (p
   pub inside : p.bracket < length w
   pub opens : slice_index w p.bracket ≡ 0x5B
   pub x : IsPlain asked w (p.bracket + 1) (plain_at p.x pos.x)
-  pub middle : p.x.end < length w
-  pub comma : slice_index w p.x.end ≡ 0x2C
-  pub y : IsPlain asked w (p.x.end + 1) (plain_at p.y pos.y)
-  pub last : p.y.end < p.close
-  pub closes : EndsPosition w p.y.end p.close
+  pub middle : p.x.last ≤ p.comma
+  pub middle_spaces : AreSpaces (between w p.x.last p.comma)
+  pub comma : slice_index w p.comma ≡ 0x2C
+  pub y : IsPlain asked w (p.comma + 1) (plain_at p.y pos.y)
+  pub last : p.y.last < p.close
+  pub closes : EndsPosition w p.y.last p.close
   pub behind : p.close ≤ p.end
   pub more_spaces : AreSpaces (between w p.close p.end)
   pub within : p.end ≤ length w

@@ -9,7 +9,8 @@ use Rattle.at_fixed.specs.declared.rounding.Coords.{Coords}
 use Rattle.at_geom.specs.declared.shapes.Shape.{Shape}
 use Rattle.at_lex.specs.Strings.{units_of}
 use Rattle.at_lex.specs.Runs.{the_null}
-use Rattle.at_wkt.specs.Meaning.{empty_shape, both, shape_of, faults_of}
+use Rattle.at_geom.specs.Shapes.{empty_shape, both}
+use Rattle.at_wkt.specs.Meaning.{shape_of, faults_of}
 use Rattle.at_nest.specs.Tree.{Tree, literal, number, text, array, object, Trees, no_trees, tree_and, Members}
 use Rattle.at_nest.specs.Tree.{no_members, member_and, offset_of}
 use Rattle.at_query.specs.declared.features.TextPair.{TextPair}

@@ -17,14 +17,12 @@ use Rattle.at_geojson.specs.declared.coordinates.pairs.Plain.{Plain}
 use Rattle.at_geojson.specs.declared.coordinates.pairs.PairRead.{PairRead}
 use Rattle.at_geojson.specs.Atoms.{IsOwn, IsFold}
 
--- white space, a number that has a value, and white space
+-- white space, and a number that has a value
 pub record IsPlain (asked : Asked) (w : List ℕ) (at : ℕ) (p : Plain) : Type 0 where
   pub before : at ≤ p.first
   pub spaces : AreSpaces (between w at p.first)
   pub order : p.first < p.last
-  pub behind : p.last ≤ p.end
-  pub more_spaces : AreSpaces (between w p.last p.end)
-  pub within : p.end ≤ length w
+  pub within : p.last ≤ length w
   pub number : JsonNumber (between w p.first p.last)
   pub value : IsFixedOf (between w p.first p.last) asked.digits asked.how (Ok p.number.value)
 

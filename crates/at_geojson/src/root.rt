@@ -31,31 +31,13 @@ pub struct FeatureFront {
     pub part: Result<Part, Fault>,
 }
 
-/// The part, or the fault.
-fn part_or_fault(found: Result<Part, Fault>) -> Result<Part, Refusal>
-    ensures { result ≡ found_end found }
-{
-    match found {
-        Ok(part) => Ok(part),
-        Err(fault) => Err(Refusal::Found(fault)),
-    }
-}
-
 /// The part of a geometry that is a feature without texts.
 fn lone_part(alloc: Global, algebra: &GeoAlgebra, at: u32, shape: Geometry) -> Result<Part, Refusal>
     requires { IsShapeInRange shape }
     ensures { EndsLone algebra.now.query (record { at = at; shape = shape; texts = [] }) result }
 {
-    match feature_part(
-        alloc,
-        algebra,
-        at,
-        shape,
-        TextPairs::from_vec(Vec::new(alloc)),
-    ) {
-        Ok(part) => Ok(part),
-        Err(Memory) => Err(Refusal::Memory),
-    }
+    let texts = TextPairs::from_vec(Vec::new(alloc));
+    Ok(feature_part(alloc, algebra, at, shape, texts)?)
 }
 
 /// The part of a geometry that is the whole text.
@@ -68,10 +50,7 @@ fn geometry_part(
     requires { IfOwnShape algebra.now geometry }
     ensures { EndsGeometry algebra.now.query at geometry result }
 {
-    match geometry {
-        Ok(shape) => lone_part(alloc, algebra, at, shape),
-        Err(fault) => Err(Refusal::Found(fault)),
-    }
+    lone_part(alloc, algebra, at, geometry?)
 }
 
 /// The part of an object at the offset, by its role.
@@ -82,8 +61,8 @@ fn role_part(alloc: Global, algebra: &GeoAlgebra, at: u32, role: Role) -> Result
     match role {
         Role::Nothing => Err(Refusal::Found(form_at(at))),
         Role::Geometry(geometry) => geometry_part(alloc, algebra, at, geometry),
-        Role::Feature(found) => part_or_fault(found),
-        Role::Collection(found) => part_or_fault(found),
+        Role::Feature(found) => Ok(found?),
+        Role::Collection(found) => Ok(found?),
     }
 }
 

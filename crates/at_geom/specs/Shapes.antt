@@ -14,6 +14,22 @@ use Rattle.at_geom.specs.declared.rectangles.Extent.{Extent}
 use Rattle.at_geom.specs.Segments.{HaveCommonPoint, IsInRange, edges}
 use Rattle.at_geom.specs.Regions.{IsInPolygon}
 
+abbrev pub empty_shape : Shape
+empty_shape = record { points = []; lines = []; polygons = [] }
+
+abbrev pub of_points : List Pos → Shape
+of_points ps = record { points = ps; lines = []; polygons = [] }
+
+abbrev pub of_lines : List (List Pos) → Shape
+of_lines ls = record { points = []; lines = ls; polygons = [] }
+
+abbrev pub of_polygons : List Polygon → Shape
+of_polygons ps = record { points = []; lines = []; polygons = ps }
+
+-- the parts of both, in order
+abbrev pub both : Shape → Shape → Shape
+both s u = record { points = s.points ++ u.points; lines = s.lines ++ u.lines; polygons = s.polygons ++ u.polygons }
+
 -- every coordinate is in range
 abbrev pub ArePathsInRange : List (List Pos) → Type 0
 ArePathsInRange paths = All (All IsInRange) paths

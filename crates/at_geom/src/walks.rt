@@ -5,7 +5,7 @@ ghost use Rattle.at_geom.specs.declared.positions.Pos.{Pos};
 ghost use Rattle.at_geom.specs.Segments.{IsInRange, edges};
 ghost use Rattle.at_geom.specs.Shapes.{ArePathsInRange, ArePolygonsInRange, IsShapeInRange, positions, joined};
 ghost use Rattle.at_geom.specs.Shapes.{positions_of_polygons, segments, segments_of_points, segments_of_polygons};
-ghost use Rattle.at_geom.specs.Walks.{Finds};
+ghost use Rattle.at_geom.specs.Walks.{Searches};
 
 use crate::positions::{Path, Pos};
 use crate::shapes::{Polygon, Shape};
@@ -13,7 +13,7 @@ use crate::shapes::{Polygon, Shape};
 fn position_of_path<F: Fn(Pos) -> bool>(path: &[Pos], test: &F) -> bool
     requires path_in_range { All IsInRange path.now }
     requires callable { (p : Pos) → IsInRange p → F.pre test.now p }
-    ensures { Finds (λ p r. IsInRange p × F.post test.now p r) (path.now) result }
+    ensures { Searches (λ p r. IsInRange p × F.post test.now p r) (path.now) result }
 {
     for p in path {
         if test(*p) {
@@ -26,7 +26,7 @@ fn position_of_path<F: Fn(Pos) -> bool>(path: &[Pos], test: &F) -> bool
 fn position_of_paths<F: Fn(Pos) -> bool>(paths: &[Path], test: &F) -> bool
     requires paths_in_range { ArePathsInRange paths.now }
     requires callable { (p : Pos) → IsInRange p → F.pre test.now p }
-    ensures { Finds (λ p r. IsInRange p × F.post test.now p r) (joined paths.now) result }
+    ensures { Searches (λ p r. IsInRange p × F.post test.now p r) (joined paths.now) result }
 {
     for path in paths {
         if position_of_path(path.as_slice(), test) {
@@ -39,7 +39,7 @@ fn position_of_paths<F: Fn(Pos) -> bool>(paths: &[Path], test: &F) -> bool
 fn position_of_polygons<F: Fn(Pos) -> bool>(polygons: &[Polygon], test: &F) -> bool
     requires polygons_in_range { ArePolygonsInRange polygons.now }
     requires callable { (p : Pos) → IsInRange p → F.pre test.now p }
-    ensures { Finds (λ p r. IsInRange p × F.post test.now p r) (positions_of_polygons polygons.now) result }
+    ensures { Searches (λ p r. IsInRange p × F.post test.now p r) (positions_of_polygons polygons.now) result }
 {
     for polygon in polygons {
         if position_of_paths(polygon.rings.as_slice(), test) {
@@ -53,7 +53,7 @@ fn position_of_polygons<F: Fn(Pos) -> bool>(polygons: &[Polygon], test: &F) -> b
 pub fn some_position<F: Fn(Pos) -> bool>(shape: &Shape, test: &F) -> bool
     requires shape_in_range { IsShapeInRange shape.now }
     requires callable { (p : Pos) → IsInRange p → F.pre test.now p }
-    ensures { Finds (λ p r. IsInRange p × F.post test.now p r) (positions shape.now) result }
+    ensures { Searches (λ p r. IsInRange p × F.post test.now p r) (positions shape.now) result }
 {
     if position_of_path(shape.points.as_slice(), test) {
         return true;
@@ -67,7 +67,7 @@ pub fn some_position<F: Fn(Pos) -> bool>(shape: &Shape, test: &F) -> bool
 fn segment_of_points<F: Fn(Pos, Pos) -> bool>(points: &[Pos], test: &F) -> bool
     requires points_in_range { All IsInRange points.now }
     requires callable { (a b : Pos) → IsInRange a → IsInRange b → F.pre test.now a b }
-    ensures { Finds (λ e r. (IsInRange e.0 × IsInRange e.1) × F.post test.now e.0 e.1 r) (segments_of_points points.now) result }
+    ensures { Searches (λ e r. (IsInRange e.0 × IsInRange e.1) × F.post test.now e.0 e.1 r) (segments_of_points points.now) result }
 {
     for p in points {
         if test(*p, *p) {
@@ -80,7 +80,7 @@ fn segment_of_points<F: Fn(Pos, Pos) -> bool>(points: &[Pos], test: &F) -> bool
 fn segment_of_path<F: Fn(Pos, Pos) -> bool>(path: &[Pos], test: &F) -> bool
     requires path_in_range { All IsInRange path.now }
     requires callable { (a b : Pos) → IsInRange a → IsInRange b → F.pre test.now a b }
-    ensures { Finds (λ e r. (IsInRange e.0 × IsInRange e.1) × F.post test.now e.0 e.1 r) (edges path.now) result }
+    ensures { Searches (λ e r. (IsInRange e.0 × IsInRange e.1) × F.post test.now e.0 e.1 r) (edges path.now) result }
 {
     let Some((first, rest)) = path.split_first() else {
         return false;
@@ -98,7 +98,7 @@ fn segment_of_path<F: Fn(Pos, Pos) -> bool>(path: &[Pos], test: &F) -> bool
 fn segment_of_paths<F: Fn(Pos, Pos) -> bool>(paths: &[Path], test: &F) -> bool
     requires paths_in_range { ArePathsInRange paths.now }
     requires callable { (a b : Pos) → IsInRange a → IsInRange b → F.pre test.now a b }
-    ensures { Finds (λ e r. (IsInRange e.0 × IsInRange e.1) × F.post test.now e.0 e.1 r) (flat_map edges paths.now) result }
+    ensures { Searches (λ e r. (IsInRange e.0 × IsInRange e.1) × F.post test.now e.0 e.1 r) (flat_map edges paths.now) result }
 {
     for path in paths {
         if segment_of_path(path.as_slice(), test) {
@@ -111,7 +111,7 @@ fn segment_of_paths<F: Fn(Pos, Pos) -> bool>(paths: &[Path], test: &F) -> bool
 fn segment_of_polygons<F: Fn(Pos, Pos) -> bool>(polygons: &[Polygon], test: &F) -> bool
     requires polygons_in_range { ArePolygonsInRange polygons.now }
     requires callable { (a b : Pos) → IsInRange a → IsInRange b → F.pre test.now a b }
-    ensures { Finds (λ e r. (IsInRange e.0 × IsInRange e.1) × F.post test.now e.0 e.1 r) (segments_of_polygons polygons.now) result }
+    ensures { Searches (λ e r. (IsInRange e.0 × IsInRange e.1) × F.post test.now e.0 e.1 r) (segments_of_polygons polygons.now) result }
 {
     for polygon in polygons {
         if segment_of_paths(polygon.rings.as_slice(), test) {
@@ -125,7 +125,7 @@ fn segment_of_polygons<F: Fn(Pos, Pos) -> bool>(polygons: &[Polygon], test: &F) 
 pub fn some_segment<F: Fn(Pos, Pos) -> bool>(shape: &Shape, test: &F) -> bool
     requires shape_in_range { IsShapeInRange shape.now }
     requires callable { (a b : Pos) → IsInRange a → IsInRange b → F.pre test.now a b }
-    ensures { Finds (λ e r. (IsInRange e.0 × IsInRange e.1) × F.post test.now e.0 e.1 r) (segments shape.now) result }
+    ensures { Searches (λ e r. (IsInRange e.0 × IsInRange e.1) × F.post test.now e.0 e.1 r) (segments shape.now) result }
 {
     if segment_of_points(shape.points.as_slice(), test) {
         return true;

@@ -8,7 +8,7 @@ use Rattle.at_text.specs.Faults.{first_fault}
 use Rattle.at_text.specs.Texts.{utf8_fault, base_of}
 use Rattle.at_fixed.specs.declared.rounding.Coords.{Coords}
 use Rattle.at_wkt.specs.Lines.{FileLine, is_line_feed, pieces_from, lines_in, lines_of}
-use Rattle.at_wkt.proofs.FaultOrder.{first_of-append}
+use Rattle.at_text.proofs.FaultOrder.{first_of-append}
 use Rattle.at_wkt.proofs.LineMerges.{lines_in-append}
 use Rattle.at_query.specs.declared.features.Feature.{Feature}
 use Rattle.at_run.specs.Features.{IsLineFeature, AreLineFeatures}

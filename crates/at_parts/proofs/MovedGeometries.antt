@@ -14,7 +14,8 @@ use Rattle.at_geom.specs.Closed.{last_of}
 use Rattle.at_geom.specs.Shapes.{line_fault, ring_fault}
 use Rattle.at_wkt.specs.Positions.{Position, Positions, faults_in, number_fault, position_faults, pos_of, path_of, items_faults, faults_of_line, is_faultless, closes_with, is_closed, faults_of_ring}
 use Rattle.at_wkt.specs.Geometry.{Geometry, point, line_string, polygon, multi_point, multi_line_string, multi_polygon, collection, Geometries, no_geometries, geometry_and}
-use Rattle.at_wkt.specs.Meaning.{of_points, of_lines, of_polygons, both, present, polygons_of, faults_of_area, shape_of, shape_of_all, faults_of, faults_of_all}
+use Rattle.at_geom.specs.Shapes.{of_points, of_lines, of_polygons, both}
+use Rattle.at_wkt.specs.Meaning.{present, polygons_of, faults_of_area, shape_of, shape_of_all, faults_of, faults_of_all}
 use Rattle.at_parts.specs.Moved.{fault_moved}
 
 -- the geometry with each of its offsets changed

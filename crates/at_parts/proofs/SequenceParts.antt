@@ -10,7 +10,7 @@ use Rattle.at_text.specs.Separated.{Piece}
 use Rattle.at_text.specs.Texts.{base_of, utf8_fault}
 use Rattle.at_text.proofs.Separated.{pieces_parted, pieces_some}
 use Rattle.at_fixed.specs.declared.rounding.Coords.{Coords}
-use Rattle.at_wkt.proofs.FaultOrder.{first_of-append}
+use Rattle.at_text.proofs.FaultOrder.{first_of-append}
 use Rattle.at_nest.specs.Tree.{Tree}
 use Rattle.at_nest.specs.Twins.{twins_of}
 use Rattle.at_nest.specs.Syntax.{JsonText}

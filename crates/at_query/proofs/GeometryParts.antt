@@ -12,7 +12,8 @@ use Rattle.at_fixed.specs.declared.rounding.Coords.{Coords}
 use Rattle.at_geom.specs.declared.shapes.Shape.{Shape}
 use Rattle.at_wkt.specs.declared.answers.Prefix.{Prefix}
 use Rattle.at_wkt.specs.Geometry.{Geometry, point, SpellsGeometry, WktGeometry}
-use Rattle.at_wkt.specs.Meaning.{shape_of, faults_of, empty_shape}
+use Rattle.at_geom.specs.Shapes.{empty_shape}
+use Rattle.at_wkt.specs.Meaning.{shape_of, faults_of}
 use Rattle.at_wkt.specs.Answers.{IsPrefixOf, IsPrefixFault}
 use Rattle.at_query.specs.declared.query.queries.Test.TheVariants.{MeetsShape}
 use Rattle.at_fixed.specs.NumberSoFar.{between}

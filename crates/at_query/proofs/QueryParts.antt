@@ -17,7 +17,8 @@ use Rattle.at_fixed.specs.Fixed.{fixed_of}
 use Rattle.at_geom.specs.Shapes.{line_fault, ring_fault, ArePathsInRange, IsShapeInRange}
 use Rattle.at_wkt.specs.Positions.{Position, Positions, faults_in, number_fault, position_faults, items_faults, faults_of_line, faults_of_ring, is_closed}
 use Rattle.at_wkt.specs.Geometry.{Geometry, Geometries, point, line_string, polygon, multi_point, multi_line_string, multi_polygon, collection, no_geometries, geometry_and}
-use Rattle.at_wkt.specs.Meaning.{shape_of, empty_shape, present, faults_of_area, faults_of, faults_of_all}
+use Rattle.at_geom.specs.Shapes.{empty_shape}
+use Rattle.at_wkt.specs.Meaning.{shape_of, present, faults_of_area, faults_of, faults_of_all}
 use Rattle.at_query.specs.declared.query.queries.Verb.{Verb}
 use Rattle.at_query.specs.declared.query.queries.Verb.TheVariants.{Select, Count, Area, Extent, Hull, Join}
 use Rattle.at_query.specs.declared.query.queries.Test.{Test}

@@ -18,7 +18,8 @@ use Rattle.at_geom.specs.Segments.{IsInRange}
 use Rattle.at_geom.specs.Shapes.{ArePathsInRange, ArePolygonsInRange, IsShapeInRange}
 use Rattle.at_wkt.specs.Positions.{Position, Positions, value_in, value_of, pos_of, path_of}
 use Rattle.at_wkt.specs.Geometry.{Geometry, Geometries, point, line_string, polygon, multi_point, multi_line_string, multi_polygon, collection, no_geometries, geometry_and}
-use Rattle.at_wkt.specs.Meaning.{empty_shape, of_points, of_lines, of_polygons, both, present, polygons_of, shape_of, shape_of_all}
+use Rattle.at_geom.specs.Shapes.{empty_shape, of_points, of_lines, of_polygons, both}
+use Rattle.at_wkt.specs.Meaning.{present, polygons_of, shape_of, shape_of_all}
 
 -- ---- values
 

@@ -11,7 +11,8 @@ use Rattle.at_geom.specs.declared.shapes.Shape.{Shape}
 use Rattle.at_geom.specs.Shapes.{positions, joined, positions_of_polygons}
 use Rattle.at_wkt.specs.Positions.{Position, Positions, pos_of, path_of}
 use Rattle.at_wkt.specs.Geometry.{Geometry, point, line_string, polygon, multi_point, multi_line_string, multi_polygon, collection, Geometries, no_geometries, geometry_and}
-use Rattle.at_wkt.specs.Meaning.{both, present, polygons_of, shape_of, shape_of_all}
+use Rattle.at_geom.specs.Shapes.{both}
+use Rattle.at_wkt.specs.Meaning.{present, polygons_of, shape_of, shape_of_all}
 use Rattle.at_query.specs.declared.features.Feature.{Feature}
 use Rattle.at_query.specs.Results.{all_positions}
 use Rattle.at_query.specs.Parts.{AreFew}

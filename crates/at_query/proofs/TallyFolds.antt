@@ -17,7 +17,7 @@ use Rattle.at_geom.specs.Regions.{sum_of, shoelace, wrapped_ring_size, wrapped_a
 use Rattle.at_geom.specs.Shapes.{widened, joined, positions_of_polygons}
 use Rattle.at_geom.proofs.Shoelace.{term, shoelace-cons}
 use Rattle.at_geom.proofs.Covering.{extent_of_parts}
-use Rattle.at_wkt.specs.Meaning.{of_points, of_lines, of_polygons}
+use Rattle.at_geom.specs.Shapes.{of_points, of_lines, of_polygons}
 use Rattle.at_query.specs.declared.query.queries.Query.{Query}
 use Rattle.at_query.specs.declared.query.queries.Verb.{Verb}
 use Rattle.at_query.specs.declared.query.queries.Verb.TheVariants as verbs

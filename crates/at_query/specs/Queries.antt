@@ -9,7 +9,8 @@ use Rattle.at_geom.specs.declared.positions.Pos.{Pos}
 use Rattle.at_geom.specs.declared.rectangles.Extent.{Extent}
 use Rattle.at_geom.specs.declared.shapes.Shape.{Shape}
 use Rattle.at_wkt.specs.Positions.{number_fault, value_of}
-use Rattle.at_wkt.specs.Meaning.{shape_of, faults_of, of_polygons}
+use Rattle.at_geom.specs.Shapes.{of_polygons}
+use Rattle.at_wkt.specs.Meaning.{shape_of, faults_of}
 use Rattle.at_query.specs.declared.query.queries.Query.{Query}
 use Rattle.at_query.specs.declared.query.queries.Test.{Test}
 use Rattle.at_query.specs.declared.query.queries.Test.TheVariants.{InBox, MeetsShape, Has}

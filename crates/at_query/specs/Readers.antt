@@ -10,7 +10,8 @@ use Rattle.at_fixed.specs.declared.rounding.Coords.{Coords}
 use Rattle.at_lex.specs.Strings.{Character, units_of, SpellsString}
 use Rattle.at_geom.specs.declared.rectangles.Extent.{Extent}
 use Rattle.at_wkt.specs.Geometry.{Geometry, SpellsGeometry}
-use Rattle.at_wkt.specs.Meaning.{shape_of, faults_of, empty_shape}
+use Rattle.at_geom.specs.Shapes.{empty_shape}
+use Rattle.at_wkt.specs.Meaning.{shape_of, faults_of}
 use Rattle.at_query.specs.declared.query.coordinates.NumberRead.{NumberRead}
 use Rattle.at_query.specs.declared.query.boxes.BoxRead.{BoxRead}
 use Rattle.at_query.specs.declared.query.boxes.Corners.{Corners}

@@ -6,7 +6,7 @@ use Rattle.at_text.specs.Faults.{first_fault, first_of}
 use Rattle.at_fixed.specs.declared.rounding.Coords.{Coords}
 use Rattle.at_wkt.specs.Meaning.{faults_of}
 use Rattle.at_wkt.specs.Lines.{FileLine, lines_of}
-use Rattle.at_wkt.proofs.FaultOrder.{first_of-append}
+use Rattle.at_text.proofs.FaultOrder.{first_of-append}
 use Rattle.at_wkt.proofs.OneFile.{one_syntax_fault}
 use Rattle.at_run.specs.Labels.{LabelledLine}
 use Rattle.at_run.specs.LineFaults.{HasFaults, HaveFaults, HasLinesFaultBehind}

@@ -20,17 +20,6 @@ use at_text::{Refusal, utf8_fault};
 use at_wkt::{LineFragment, finish_lines};
 use std::alloc::Global;
 
-/// The part of the features of which this is kept.
-fn part_of_kept(kept: Accumulator) -> Result<Part, Refusal>
-    ensures { MatchResult result (λ part. (query : Query) (fs : List Feature) → IsAccumulated query fs kept
-        → IsPart query fs part) (λ end. end ≡ Refusal.Memory) }
-{
-    match kept.into_part() {
-        Ok(part) => Ok(part),
-        Err(_) => Err(Refusal::Memory),
-    }
-}
-
 /// The part of a file's lines, or the file's first fault.
 ///
 /// The encoding of the whole file is looked at only where a line has a fault: without labels, what lines without one
@@ -42,7 +31,7 @@ fn end_of(bytes: &[u8], gathered: Gathered) -> Result<Part, Refusal>
         (λ end. IfFound end (λ fault. HasFileFaultIn Wkt asked.digits asked.how bytes.now (Some fault))) }
 {
     match gathered {
-        Gathered::Kept(kept) => part_of_kept(kept),
+        Gathered::Kept(kept) => Ok(kept.into_part()?),
         Gathered::Failed(fault) => Err(Refusal::Found(utf8_fault(bytes).unwrap_or(fault))),
     }
 }
@@ -64,8 +53,6 @@ pub fn finish_line_file(
     ensures { MatchResult result (IsFilePart Wkt query.now.digits query.now.how query.now.query bytes.now)
         (λ end. IfFound end (λ fault. HasFileFaultIn Wkt query.now.digits query.now.how bytes.now (Some fault))) }
 {
-    match finish_lines(alloc, query, bytes, whole) {
-        Ok(gathered) => end_of(bytes, gathered),
-        Err(_) => Err(Refusal::Memory),
-    }
+    let gathered = finish_lines(alloc, query, bytes, whole)?;
+    end_of(bytes, gathered)
 }

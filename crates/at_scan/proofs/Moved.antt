@@ -65,12 +65,15 @@ module _ (w : List ℕ) (from to far : ℕ) (fits : far + to ≤ length w) (same
 
   pub ends_moved : (at end : ℕ) → from ≤ at → end ≤ to → EndsPosition w at end → EndsPosition w (far + at) (far + end)
   ends_moved at end h k p = record {
+    first = far + p.first;
+    before = omega (arith, p.before);
+    spaces = subst AreSpaces (part_moved at p.first h p.before (omega (arith, p.order, p.behind))) p.spaces;
     places = map (λ e. far + e) p.places;
     place = far + p.place;
-    further = all_moved at (far + at) p.places p.place h (omega (arith, p.behind)) refl p.further;
+    further = all_moved p.first (far + p.first) p.places p.place (omega (arith, h, p.before)) (omega (arith, p.behind)) refl p.further;
     order = omega (arith, p.order);
     inside = omega (arith, p.behind);
-    closes = byte_moved p.place 0x5D (omega (arith, p.order)) (omega (arith, p.behind)) p.closes;
+    closes = byte_moved p.place 0x5D (omega (arith, h, p.before, p.order)) (omega (arith, p.behind)) p.closes;
     behind = omega (arith, p.behind);
   }
 

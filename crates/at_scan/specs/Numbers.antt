@@ -23,12 +23,15 @@ abbrev pub AreFurther : List ℕ → ℕ → List ℕ → ℕ → Type 0
 AreFurther w at [] end = at ≡ end
 AreFurther w at (e ∷ es) end = IsFurther w at e × AreFurther w e es end
 
--- what stands behind the first two numbers of a position: further numbers, if there are any, and its bracket
+-- what stands behind the first two numbers of a position: white space, further numbers, if there are any, and its bracket
 pub record EndsPosition (w : List ℕ) (at end : ℕ) : Type 0 where
+  pub first : ℕ
+  pub before : at ≤ first
+  pub spaces : AreSpaces (between w at first)
   pub places : List ℕ
   pub place : ℕ
-  pub further : AreFurther w at places place
-  pub order : at ≤ place
+  pub further : AreFurther w first places place
+  pub order : first ≤ place
   pub inside : place < length w
   pub closes : slice_index w place ≡ 0x5D
   pub behind : end ≡ place + 1

@@ -54,10 +54,11 @@ fn same_lanes(text: &[u8], at: usize, word: &[u8]) -> usize
 /// Whether the first bytes of the word, so many, stand at the place. Near the end of the text the answer is no.
 #[inline(always)]
 pub fn stands_word(text: &[u8], at: usize, word: &[u8], count: usize) -> bool
-    requires { 16 ≤ length word.now }
+    requires inside { at ≤ length text.now }
+    requires word { 16 ≤ length word.now }
     ensures { result ≡ true → StandsWord text.now at word.now count }
 {
-    at <= text.len() && text.len() - at >= LANES && same_lanes(text, at, word) >= count
+    text.len() - at >= LANES && same_lanes(text, at, word) >= count
 }
 
 /// The name of the field behind white space, where this word of so many bytes, with quotes and colon, stands there.
@@ -71,6 +72,7 @@ fn word_name(
     field: Field,
 ) -> Option<FieldName>
     requires order { at ≤ first }
+    requires inside { first ≤ length text.now }
     requires spaces { AreSpaces (between text.now at first) }
     requires word { NamesField word.now count field }
     ensures { IfSome result (IsFieldName text.now at) }
@@ -110,7 +112,8 @@ pub fn known_name(text: &[u8], at: usize, first: usize) -> Option<FieldName>
 /// The kind, where this word of so many bytes, its name with quotes, stands at the place.
 #[inline(always)]
 fn word_kind(text: &[u8], at: usize, word: &[u8], count: usize, kind: Kind) -> Option<KindRead>
-    requires { NamesKind word.now count kind }
+    requires inside { at ≤ length text.now }
+    requires word { NamesKind word.now count kind }
     ensures { IfSome result (IsKindName text.now at) }
 {
     if !stands_word(text, at, word, count) {
@@ -123,7 +126,7 @@ fn word_kind(text: &[u8], at: usize, word: &[u8], count: usize, kind: Kind) -> O
 /// Whether the name of the kind of collections of features seems to begin at the place: it is longer than what is looked
 /// at together.
 pub fn begins_collection(text: &[u8], at: usize) -> bool {
-    stands_word(text, at, COLLECTION, LANES)
+    at <= text.len() && stands_word(text, at, COLLECTION, LANES)
 }
 
 /// One of the kinds that are named most often, whose name stands at the place.

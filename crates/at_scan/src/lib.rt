@@ -36,8 +36,8 @@ pub use members::{
 };
 pub use numbers::{may_begin, position_end, valued_len, valued_number};
 pub use places::{
-    NamePlace, OTHER_KIND, brackets_ahead, expect_comma, name_place, opening, seems_cut,
-    skip_alike, skip_spaces, stands, text_end,
+    NamePlace, OTHER_KIND, brackets_ahead, byte_place, expect_comma, name_place, opening,
+    seems_cut, skip_alike, skip_spaces, stands, text_end,
 };
 pub use short_texts::{SimpleItem, is_simple, short_text_end, simple_item, simple_item_to_end};
 pub use spellings::Spelling;

@@ -26,6 +26,9 @@ const NEAR: usize = 8;
 /// So many more of them are kept at the most.
 const MOST: usize = 248;
 
+/// Room for so many more of them is taken with the first.
+const ROOM: usize = 56;
+
 /// So many words of bits mark the names that are known.
 const MARKS: usize = 64;
 
@@ -332,6 +335,9 @@ impl OtherNames {
         }
         if self.far.len() >= MOST {
             return Err(Halt::At(name.place.end));
+        }
+        if self.far.is_empty() {
+            self.far.reserve(ROOM)?;
         }
         self.far.push(name)?;
         Ok(())

@@ -6,7 +6,7 @@ ghost use Rattle.at_fixed.specs.Numerals.{JsonNumber};
 ghost use Rattle.at_fixed.specs.Fixed.{IsFixedOf};
 ghost use Rattle.at_scan.specs.Numbers.{IsFurther, EndsPosition};
 
-use crate::places::{skip_spaces, stands};
+use crate::places::{near_byte, skip_spaces, stands};
 use at_fixed::{
     Coords, Notation, PlainNumber, json_number, leading_number, plain_len, plain_number,
 };
@@ -23,6 +23,7 @@ pub fn may_begin(text: &[u8], at: usize) -> bool {
 }
 
 /// The number that begins a text, however it is written, where it has a value.
+#[cold]
 #[inline(never)]
 fn other_number(text: &[u8], digits: u8, how: Coords) -> Option<PlainNumber>
     requires short { length text.now ≤ 2 ^ 28 }
@@ -63,6 +64,7 @@ pub fn valued_number(text: &[u8], digits: u8, how: Coords) -> Option<PlainNumber
 }
 
 /// The length of the number that begins a text, however it is written, where it has a value.
+#[cold]
 #[inline(never)]
 fn other_len(text: &[u8], digits: u8, how: Coords) -> Option<u32>
     requires short { length text.now ≤ 2 ^ 28 }
@@ -101,14 +103,16 @@ fn further_number(text: &[u8], at: usize) -> Option<usize>
     Some(skip_spaces(text, first + taken.len as usize))
 }
 
-/// The place behind the further numbers of a position and its bracket: they are passed over, whatever their values.
+/// The place behind white space, the further numbers of a position, if there are any, and its bracket. The numbers are
+/// passed over, whatever their values.
+#[cold]
 #[inline(never)]
 fn further_end(text: &[u8], at: usize) -> Option<usize>
     requires inside { at ≤ length text.now }
     requires short { length text.now ≤ 2 ^ 28 }
     ensures { IfSome result (EndsPosition text.now at) }
 {
-    let mut end = at;
+    let mut end = skip_spaces(text, at);
     'further: while stands(text, end, b',') {
         end = further_number(text, end)?;
     }
@@ -119,15 +123,16 @@ fn further_end(text: &[u8], at: usize) -> Option<usize>
     }
 }
 
-/// The place behind a position's bracket, behind its first two numbers.
+/// The place behind a position's bracket, behind its first two numbers. Before the bracket so many blanks are expected
+/// behind a line end.
 #[inline(always)]
-pub fn position_end(text: &[u8], at: usize) -> Option<usize>
+pub fn position_end(text: &[u8], at: usize, blanks: usize) -> Option<usize>
     requires inside { at ≤ length text.now }
     requires short { length text.now ≤ 2 ^ 28 }
     ensures { IfSome result (EndsPosition text.now at) }
 {
-    if stands(text, at, b']') {
-        return Some(at + 1);
+    match near_byte(text, at, b']', blanks) {
+        Some(place) => Some(place + 1),
+        None => further_end(text, at),
     }
-    further_end(text, at)
 }

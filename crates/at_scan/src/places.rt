@@ -161,17 +161,17 @@ fn are_blanks(text: &[u8], at: usize, count: usize) -> bool
     count - LANES <= blank_lanes(text, at + LANES)
 }
 
-/// Whether so many blanks and no more white space stand at the place. Near the end of the text the answer is no.
+/// Whether so many blanks stand at the place, and a byte behind them. Near the end of the text the answer is no.
 #[inline(always)]
 fn indents(text: &[u8], at: usize, blanks: usize) -> bool
     requires { at ≤ length text.now }
-    ensures within { result ≡ true → at + blanks ≤ length text.now }
+    ensures inside { result ≡ true → at + blanks < length text.now }
     ensures spaces { result ≡ true → AreSpaces (between text.now at (at + blanks)) }
 {
     if text.len() - at <= 2 * LANES {
         return false;
     }
-    are_blanks(text, at, blanks) && text[at + blanks] > b' '
+    are_blanks(text, at, blanks)
 }
 
 /// `skip_spaces` where so many blanks are expected behind a line end, as they stood at a like place before it. Where they
@@ -187,10 +187,71 @@ pub fn skip_alike(text: &[u8], at: usize, blanks: usize) -> usize
         return at;
     }
     let next = at + 1;
-    if text[at] == b'\n' && indents(text, next, blanks) {
+    if text[at] == b'\n' && indents(text, next, blanks) && text[next + blanks] > b' ' {
         return next + blanks;
     }
     skip_spaces(text, at)
+}
+
+/// The place of this byte, where it stands right there, behind a blank, or behind a line end and so many blanks.
+#[inline(always)]
+pub fn near_byte(text: &[u8], at: usize, byte: u8, blanks: usize) -> Option<usize>
+    requires { at ≤ length text.now }
+    ensures order { IfSome result (λ place. at ≤ place) }
+    ensures spaces { IfSome result (λ place. AreSpaces (between text.now at place)) }
+    ensures inside { IfSome result (λ place. place < length text.now) }
+    ensures byte { IfSome result (λ place. slice_index text.now place ≡ byte) }
+{
+    if at >= text.len() {
+        return None;
+    }
+    if text[at] == byte {
+        return Some(at);
+    }
+    let next = at + 1;
+    if text[at] == b'\n' {
+        if indents(text, next, blanks) && text[next + blanks] == byte {
+            return Some(next + blanks);
+        }
+        return None;
+    }
+    if text[at] == b' ' && stands(text, next, byte) {
+        return Some(next);
+    }
+    None
+}
+
+/// The place of this byte behind any white space.
+#[cold]
+#[inline(never)]
+fn far_byte(text: &[u8], at: usize, byte: u8) -> Option<usize>
+    requires { at ≤ length text.now }
+    ensures order { IfSome result (λ place. at ≤ place) }
+    ensures spaces { IfSome result (λ place. AreSpaces (between text.now at place)) }
+    ensures inside { IfSome result (λ place. place < length text.now) }
+    ensures byte { IfSome result (λ place. slice_index text.now place ≡ byte) }
+{
+    let place = skip_spaces(text, at);
+    if stands(text, place, byte) {
+        Some(place)
+    } else {
+        None
+    }
+}
+
+/// The place of this byte, right there or behind white space, which is a blank or a line end and so many blanks as a rule.
+#[inline(always)]
+pub fn byte_place(text: &[u8], at: usize, byte: u8, blanks: usize) -> Option<usize>
+    requires { at ≤ length text.now }
+    ensures order { IfSome result (λ place. at ≤ place) }
+    ensures spaces { IfSome result (λ place. AreSpaces (between text.now at place)) }
+    ensures inside { IfSome result (λ place. place < length text.now) }
+    ensures byte { IfSome result (λ place. slice_index text.now place ≡ byte) }
+{
+    match near_byte(text, at, byte, blanks) {
+        Some(place) => Some(place),
+        None => far_byte(text, at, byte),
+    }
 }
 
 /// The place of an opening bracket, right there or behind white space.
@@ -229,6 +290,13 @@ pub fn ended_name(text: &[u8], at: usize, first: usize, end: usize) -> Result<Na
     ensures first { IfOk result (λ name. name.first ≡ first) }
     ensures end { IfOk result (λ name. name.end ≡ end) }
 {
+    if stands(text, end, b':') {
+        return Ok(NamePlace {
+            first,
+            end,
+            colon: end,
+        });
+    }
     let colon = skip_spaces(text, end);
     if stands(text, colon, b':') {
         Ok(NamePlace { first, end, colon })

@@ -6,11 +6,11 @@ ghost use Rattle.std.specs.List.Sorted.{IsNonDecreasing};
 use at_fixed::Coords;
 use at_scan::{
     Field, Kind, KindRead, NamePlace, OTHER_KIND, OtherNames, Spelling, TableNames, add_other,
-    begins_collection, brackets_ahead, expect_comma, field_name, field_named, has_hash_among,
-    hash_of, is_coordinates, is_kind, is_other, is_simple, kind_of, known_kind, may_begin,
-    name_bytes, name_place, names_collection, next_name, opening, position_end, repeated,
-    seems_cut, short_text_end, simple_item, simple_item_to_end, skip_alike, skip_spaces, stands,
-    text_end, valued_len, valued_number,
+    begins_collection, brackets_ahead, byte_place, expect_comma, field_name, field_named,
+    has_hash_among, hash_of, is_coordinates, is_kind, is_other, is_simple, kind_of, known_kind,
+    may_begin, name_bytes, name_place, names_collection, next_name, opening, position_end,
+    repeated, seems_cut, short_text_end, simple_item, simple_item_to_end, skip_alike, skip_spaces,
+    stands, text_end, valued_len, valued_number,
 };
 use at_text::{Halt, Memory};
 use std::alloc::Global;
@@ -66,7 +66,17 @@ fn white_space_alike(rt: HostRuntime) -> Result<(), Fail> {
         }
         let end = text.len().min(blanks + 1);
         assert_eq!(rt; skip_alike(text.as_slice(), end, blanks), end);
+        assert!(rt; byte_place(text.as_slice(), 0, b'1', blanks) == Some(end));
+        assert!(rt; byte_place(text.as_slice(), 0, b'1', 15) == Some(end));
+        assert!(rt; byte_place(text.as_slice(), 0, b',', blanks).is_none());
     }
+    assert!(rt;
+        byte_place(b"[", 0, b'[', 0) == Some(0) && byte_place(b" [", 0, b'[', 0) == Some(1)
+    );
+    assert!(rt;
+        byte_place(b" \t[", 0, b'[', 0) == Some(2) && byte_place(b" ", 0, b'[', 0).is_none()
+    );
+    assert!(rt; byte_place(b"[", 1, b'[', 0).is_none());
     let short = line_of(alloc, 4, b"[")?;
     assert_eq!(rt; skip_alike(short.as_slice(), 0, 4), 5);
     let tabs: &[u8] = b"\r\n\t\t[                                ";
@@ -298,6 +308,9 @@ fn numbers(rt: HostRuntime) {
     assert!(rt; valued_len(b"-15e-1 ,", 1, Coords::Exact) == Some(6));
     assert!(rt; valued_len(b"1.25", 1, Coords::Exact).is_none());
     assert!(rt; may_begin(b"9", 0) && !may_begin(b"a", 0) && !may_begin(b"9", 1));
-    assert!(rt; position_end(b"] ", 0) == Some(1) && position_end(b",3 , 4] x", 0) == Some(7));
-    assert!(rt; position_end(b",x]", 0).is_none());
+    assert!(rt; position_end(b"] ", 0, 0) == Some(1) && position_end(b"\n ]", 0, 1) == Some(3));
+    assert!(rt;
+        position_end(b",3 , 4] x", 0, 0) == Some(7) && position_end(b" ,3\t]", 0, 4) == Some(5)
+    );
+    assert!(rt; position_end(b",x]", 0, 0).is_none());
 }

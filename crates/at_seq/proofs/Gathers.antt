@@ -6,7 +6,7 @@ use Rattle.at_text.specs.Syntax.{IsSyntaxFault}
 use Rattle.at_text.specs.declared.faults.Fault.{Fault}
 use Rattle.at_text.specs.declared.faults.FaultKind.TheVariants as kinds
 use Rattle.at_fixed.specs.declared.rounding.Coords.{Coords}
-use Rattle.at_wkt.proofs.FaultOrder.{first_of-append}
+use Rattle.at_text.proofs.FaultOrder.{first_of-append}
 use Rattle.at_nest.specs.Tree.{Tree, IsTextOf}
 use Rattle.at_nest.specs.Syntax.{JsonText}
 use Rattle.at_nest.specs.TextAnswers.{Answers, IsEnd}

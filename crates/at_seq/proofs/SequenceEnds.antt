@@ -19,7 +19,7 @@ use Rattle.at_nest.proofs.OneTree.{one_tree}
 use Rattle.at_nest.proofs.TreeParts.{text_made}
 use Rattle.at_query.specs.declared.answer.parts.Part.{Part}
 use Rattle.at_query.specs.Keeping.{Asked}
-use Rattle.at_wkt.proofs.FaultOrder.{first_of-append}
+use Rattle.at_text.proofs.FaultOrder.{first_of-append}
 use Rattle.at_wkt.proofs.LineMerges.{base_within, length-span_of}
 use Rattle.at_geojson.specs.declared.atoms.atom.GeoAtom.{GeoAtom}
 use Rattle.at_geojson.specs.declared.asked.GeoAlgebra.{GeoAlgebra}

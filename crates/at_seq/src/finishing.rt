@@ -43,16 +43,6 @@ fn first_with(head: Option<Fault>, fault: Fault) -> Fault
     first_fault(head, Some(fault)).unwrap_or(fault)
 }
 
-/// The part of the features of which this is kept.
-fn part_of_kept(kept: Accumulator) -> Result<Part, Refusal>
-    ensures { BecomesPart kept result }
-{
-    match kept.into_part() {
-        Ok(part) => Ok(part),
-        Err(_) => Err(Refusal::Memory),
-    }
-}
-
 /// The part, or the first fault, from that of what stands before the first separator and from what is kept of the
 /// records.
 fn end_of(head: Option<Fault>, kept: Gathered) -> Result<Part, Refusal>
@@ -61,7 +51,7 @@ fn end_of(head: Option<Fault>, kept: Gathered) -> Result<Part, Refusal>
     match kept {
         Gathered::Failed(fault) => Err(Refusal::Found(first_with(head, fault))),
         Gathered::Kept(kept) => match head {
-            None => part_of_kept(kept),
+            None => Ok(kept.into_part()?),
             Some(fault) => Err(Refusal::Found(fault)),
         },
     }
@@ -99,10 +89,8 @@ fn text_end(file: &SeqFile<'_>, text: SeqText) -> Result<Part, Refusal>
         }
         SeqText::Parted(parted) => {
             let head = stray_fault(&file.bytes[base as usize..parted.first as usize], base);
-            match all_records(file, parted) {
-                Ok(kept) => end_of(head, kept),
-                Err(_) => Err(Refusal::Memory),
-            }
+            let kept = all_records(file, parted)?;
+            end_of(head, kept)
         }
     }
 }

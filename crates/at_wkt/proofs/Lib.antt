@@ -11,7 +11,6 @@ pub mod ListSteps
 pub mod WordSteps
 pub mod LetterSteps
 pub mod ByteSteps
-pub mod FaultOrder
 pub mod PositionAnswers
 pub mod PlainAnswers
 pub mod PathAnswers

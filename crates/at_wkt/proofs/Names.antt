@@ -16,7 +16,8 @@ pub use Rattle.at_text.specs.declared.texts.Span.{Span}
 pub use Rattle.at_wkt.specs.Answers.{HasFaultOrShape, HasFirstLineFault, HasLineShape, IsPrefixFault, IsPrefixOf, SpellsLine, faulty, unspelled}
 pub use Rattle.at_wkt.specs.Geometry.{EmptyOrParted, EmptyWord, Geometries, Geometry, InBrackets, IsLineOf, Letter, Parted, SpellsArea, SpellsFurther, SpellsFurtherGeometries, SpellsGeometry, SpellsList, SpellsNumber, SpellsPoint, SpellsPointMember, SpellsPosition, SpellsRing, WktLine, collection, geometry_and, is_blank, line_string, multi_line_string, multi_point, multi_polygon, no_geometries, point, polygon}
 pub use Rattle.at_wkt.specs.Lines.{FileLine, is_line_feed, pieces_from, without_return}
-pub use Rattle.at_wkt.specs.Meaning.{empty_shape, faults_of, faults_of_area, polygons_of, shape_of}
+pub use Rattle.at_geom.specs.Shapes.{empty_shape}
+pub use Rattle.at_wkt.specs.Meaning.{faults_of, faults_of_area, polygons_of, shape_of}
 pub use Rattle.at_wkt.specs.Positions.{Position, Positions, faults_in, faults_of_line, faults_of_ring, path_of, pos_of, position_faults, value_in}
 pub use Rattle.at_wkt.specs.Readers.{After, Allows, Body, BodyStands, Delimiter, DelimiterBreaks, DelimiterStands, EnclosedPosition, Expected, FurtherNumbers, FurtherThen, Gathers, Grows, HasCount, HeadStands, Item, ItemStands, Items, ItemsRead, ItemsSoFar, KeywordBreaks, KeywordStands, KindBreaks, KindsTried, Leads, LetterStands, Matches, Meaning, NumberBreaks, NumberSkips, NumberStands, PartStands, PositionStands, PositionsSoFar, Reaches, SkipsBlanks, Spelt, Stuck, added_line, added_path, added_point, added_position, allows, allows_more, delimiter, ends_same, fault_of_path, faults_of_path, gathered_shape, is_delimiter, joined, line_faults, meaning_of, next, no_meaning, none_kept, opens, point_faults, word_of}
 pub use Rattle.at_wkt.specs.declared.answers.Prefix.{Prefix}

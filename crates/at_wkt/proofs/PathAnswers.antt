@@ -10,7 +10,7 @@ use Rattle.at_wkt.specs.declared.line.paths.ListRead.{ListRead}
 use Rattle.at_wkt.specs.Positions.{items_faults, is_faultless, is_closed}
 use Rattle.at_wkt.specs.Readers.{PositionsStand}
 use Rattle.at_wkt.proofs.ListSteps.{items_start, items_more, items_stuck, items_end, position_lives, ring_leads}
-use Rattle.at_wkt.proofs.FaultOrder.{first_of-append}
+use Rattle.at_text.proofs.FaultOrder.{first_of-append}
 
 last_of-append : (p : Position) (ps : List Position) (q : Position) → last_of p (ps ++ (q ∷ [])) ≡ q
 last_of-append p [] q = refl

@@ -13,7 +13,7 @@ use Rattle.at_wkt.proofs.PositionSteps.{further_begins, further_leads, skip_lead
 use Rattle.at_wkt.proofs.ItemSteps.{further_spelt, further_few, allows_by, more_by}
 use Rattle.at_wkt.proofs.ListSteps.{position_further}
 use Rattle.at_text.proofs.Exits.{answers_by}
-use Rattle.at_wkt.proofs.FaultOrder.{first_of-append}
+use Rattle.at_text.proofs.FaultOrder.{first_of-append}
 
 module _ (w : List ℕ) (j m : ℕ) (c : Dimension) (k : ℕ) (skips : SkipsBlanks w j m) (reaches : Reaches c k) (two : 2 ≤ k) where
   -- a delimiter ends the position, or comes too early

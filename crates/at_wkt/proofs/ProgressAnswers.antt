@@ -12,7 +12,7 @@ use Rattle.at_wkt.proofs.LetterSteps.{letter_order}
 use Rattle.at_wkt.proofs.GeometrySteps.{joined-assoc, joined-none, Behind, Awaited, BodyAfter, open_count}
 use Rattle.at_wkt.proofs.CollectionSteps.{kind_first, after_stuck, after_closes, after_goes_on, head_spelt, head_stuck, body_stuck, body_spelt, body_behind, opened_spelt, opened_stuck}
 use Rattle.at_wkt.proofs.PartAnswers.{open_byte}
-use Rattle.at_wkt.proofs.FaultOrder.{first_of-append, first_fault-assoc, none_right}
+use Rattle.at_text.proofs.FaultOrder.{first_of-append, first_fault-assoc, none_right}
 
 -- ---- behind a geometry
 

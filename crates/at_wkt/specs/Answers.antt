@@ -8,7 +8,8 @@ use Rattle.at_fixed.specs.declared.rounding.Coords.{Coords}
 use Rattle.at_geom.specs.declared.shapes.Shape.{Shape}
 use Rattle.at_wkt.specs.declared.answers.Prefix.{Prefix}
 use Rattle.at_wkt.specs.Geometry.{Geometry, SpellsGeometry, IsLineOf, WktGeometry, WktLine}
-use Rattle.at_wkt.specs.Meaning.{shape_of, faults_of, empty_shape}
+use Rattle.at_geom.specs.Shapes.{empty_shape}
+use Rattle.at_wkt.specs.Meaning.{shape_of, faults_of}
 
 module _ (digits : ℕ) (how : Coords) where
   -- the line, which begins at the offset, spells a geometry of this first fault and shape, and no other

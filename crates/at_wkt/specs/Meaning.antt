@@ -5,25 +5,10 @@ use Rattle.at_fixed.specs.declared.rounding.Coords.{Coords}
 use Rattle.at_geom.specs.declared.positions.Pos.{Pos}
 use Rattle.at_geom.specs.declared.shapes.Polygon.{Polygon}
 use Rattle.at_geom.specs.declared.shapes.Shape.{Shape}
+use Rattle.at_geom.specs.Shapes.{empty_shape, of_points, of_lines, of_polygons, both}
 use Rattle.at_wkt.specs.Positions.{Positions, position_faults, faults_of_line, faults_of_ring, pos_of, path_of}
 use Rattle.at_wkt.specs.Geometry.{Geometry, point, line_string, polygon, multi_point, multi_line_string, multi_polygon}
 use Rattle.at_wkt.specs.Geometry.{collection, Geometries, no_geometries, geometry_and}
-
-abbrev pub empty_shape : Shape
-empty_shape = record { points = []; lines = []; polygons = [] }
-
-abbrev pub of_points : List Pos → Shape
-of_points ps = record { points = ps; lines = []; polygons = [] }
-
-abbrev pub of_lines : List (List Pos) → Shape
-of_lines ls = record { points = []; lines = ls; polygons = [] }
-
-abbrev pub of_polygons : List Polygon → Shape
-of_polygons ps = record { points = []; lines = []; polygons = ps }
-
--- the parts of both, in order
-abbrev pub both : Shape → Shape → Shape
-both s u = record { points = s.points ++ u.points; lines = s.lines ++ u.lines; polygons = s.polygons ++ u.polygons }
 
 -- the items that are not EMPTY
 abbrev pub present : {X : Type 0} → List (Option X) → List X

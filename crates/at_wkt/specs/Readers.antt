@@ -46,7 +46,8 @@ use Rattle.at_fixed.specs.declared.rounding.Coords.{Coords}
 use Rattle.at_wkt.specs.Positions.{Position, Positions, value_of, number_fault, pos_of, position_faults, path_of}
 use Rattle.at_wkt.specs.Positions.{items_faults, is_closed, faults_of_line, faults_of_ring}
 use Rattle.at_geom.specs.declared.shapes.Shape.{Shape}
-use Rattle.at_wkt.specs.Meaning.{both, empty_shape, shape_of, shape_of_all, faults_of, faults_of_all}
+use Rattle.at_geom.specs.Shapes.{both, empty_shape}
+use Rattle.at_wkt.specs.Meaning.{shape_of, shape_of_all, faults_of, faults_of_all}
 use Rattle.at_wkt.specs.Geometry.{Geometry, point, line_string, polygon, multi_point, multi_line_string, multi_polygon}
 use Rattle.at_wkt.specs.Geometry.{collection, Geometries, no_geometries, geometry_and, WktLine, SpellsGeometry}
 use Rattle.at_wkt.specs.Geometry.{SpellsGeometries, SpellsPoint, SpellsList, SpellsArea, EmptyOrParted}

@@ -87,9 +87,10 @@ fn keep_positions(text: &Text<'_>, first: PairRead) -> Result<Whole, Halt>
     let mut path = Vec::with_capacity(text.alloc, ROOM)?;
     path.push(first.pair.pos)?;
     let margins = margins_behind(text, first.end);
+    let near = *text;
     let mut last = first;
     let mut count = 1;
-    'positions: while let Some(next) = next_pair(text, last.end, margins) {
+    'positions: while let Some(next) = next_pair(&near, last.end, margins) {
         path.push(next.pair.pos)?;
         count = one_more(count);
         last = next;
@@ -111,9 +112,10 @@ fn pass_positions(text: &Text<'_>, first: PairRead) -> Result<Whole, Halt>
             atom: GeoAtom::Position(first.pair),
         });
     };
+    let near = *text;
     let mut end = first.end;
     let mut count = 1;
-    'positions: while let Some(next) = pass_next(text, ahead, margins) {
+    'positions: while let Some(next) = pass_next(&near, ahead, margins) {
         count = one_more(count);
         end = ahead;
         ahead = next;

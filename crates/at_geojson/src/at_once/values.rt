@@ -14,7 +14,7 @@ use crate::at_once::passing::pass_item;
 use crate::atoms::atom::{GeoAtom, NumberAtom};
 use crate::atoms::lists::{array_atom, one_item_atom};
 use crate::atoms::scalars::{plain_text_atom, scalar_atom, simple_atom};
-use crate::coordinates::pairs::{Margins, PairRead, Whole, read_pair};
+use crate::coordinates::pairs::{PairRead, Whole, read_pair};
 use crate::coordinates::rings::read_coordinates;
 use crate::objects::fields::{Fields, new_name};
 use crate::objects::object_atoms::{fields_atom, object_atom};
@@ -146,7 +146,7 @@ fn read_any(text: &Text<'_>, at: usize, depth: u8) -> Result<Whole, Halt>
     requires inside { at ≤ length text.now.bytes.now }
     ensures { IfOk result (IsWhole text.now.algebra.now text.now.base text.now.bytes.now at) }
 {
-    match read_pair(text, at, Margins::UNKNOWN) {
+    match read_pair(text, at) {
         Some(PairRead { end, pair }) => Ok(Whole {
             end,
             atom: GeoAtom::Position(pair),

@@ -1,7 +1,7 @@
 //! The shape of a geometry that is still to be joined with others.
 
 ghost use Rattle.std.specs.Prelude.{◌≡◌, ◌++◌, reverse, true, IfOk};
-ghost use Rattle.at_wkt.specs.Meaning.{both, empty_shape as nothing};
+ghost use Rattle.at_geom.specs.Shapes.{both, empty_shape as nothing};
 ghost use Rattle.at_geom.specs.declared.shapes.Shape.{Shape};
 ghost use Rattle.at_geojson.specs.Geometries.{in_order, turned};
 

@@ -3,7 +3,7 @@
 ghost use Rattle.std.specs.Prelude.{◌≡◌, ◌≢◌, [], ◌∷◌, All, IfOk, Some, None, Ok, Err, false};
 ghost use Rattle.std.specs.List.{list_any};
 ghost use Rattle.at_text.specs.Faults.{fault_at};
-ghost use Rattle.at_wkt.specs.Meaning.{empty_shape as nothing};
+ghost use Rattle.at_geom.specs.Shapes.{empty_shape as nothing};
 ghost use Rattle.at_query.specs.Parts.{IsPart};
 ghost use Rattle.at_geojson.specs.Atoms.{is_empty as is_empty_atom, as_geometries as geometries_in};
 ghost use Rattle.at_geojson.specs.Atoms.{as_features as features_in, at_of as offset_in, twin_of as twin_in};

@@ -1,7 +1,7 @@
 //! A value as the coordinates of each kind of geometry (RFC 7946 section 3.1).
 
 ghost use Rattle.std.specs.Prelude.{◌≡◌, ◌∷◌, [], IfOk};
-ghost use Rattle.at_wkt.specs.Meaning.{of_points as points_are, of_lines as lines_are, of_polygons as polygons_are};
+ghost use Rattle.at_geom.specs.Shapes.{of_points as points_are, of_lines as lines_are, of_polygons as polygons_are};
 ghost use Rattle.at_query.specs.Keeping.{kept};
 ghost use Rattle.at_geojson.specs.Objects.{unless as shape_unless, point_shape, points_shape, line_shape, lines_shape};
 ghost use Rattle.at_geojson.specs.Objects.{polygon_shape, polygons_shape};

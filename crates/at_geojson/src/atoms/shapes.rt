@@ -1,8 +1,8 @@
 //! Geometries of points, lines and polygons, and how they are joined.
 
 ghost use Rattle.std.specs.Prelude.{◌≡◌, [], ◌∷◌, IfOk};
-ghost use Rattle.at_wkt.specs.Meaning.{of_points as points_shape, of_lines as lines_shape};
-ghost use Rattle.at_wkt.specs.Meaning.{of_polygons as polygons_shape, empty_shape as nothing};
+ghost use Rattle.at_geom.specs.Shapes.{of_points as points_shape, of_lines as lines_shape};
+ghost use Rattle.at_geom.specs.Shapes.{of_polygons as polygons_shape, empty_shape as nothing};
 ghost use Rattle.at_query.specs.Keeping.{kept};
 ghost use Rattle.at_geojson.specs.Gathering.{JoinsShapes};
 

@@ -8,7 +8,7 @@ ghost use Rattle.at_geom.specs.declared.rectangles.Extent.{Extent};
 ghost use Rattle.at_geom.specs.declared.shapes.Polygon.{Polygon};
 ghost use Rattle.at_geom.specs.declared.shapes.Shape.{Shape};
 ghost use Rattle.at_geom.specs.Segments.{IsInRange};
-ghost use Rattle.at_wkt.specs.Meaning.{of_points as points_are, of_lines as lines_are, of_polygons as polygons_are};
+ghost use Rattle.at_geom.specs.Shapes.{of_points as points_are, of_lines as lines_are, of_polygons as polygons_are};
 ghost use Rattle.at_query.specs.declared.query.queries.Query.{Query};
 ghost use Rattle.at_query.specs.declared.query.looks.Measure.{Measure};
 ghost use Rattle.at_query.specs.declared.query.looks.Measure.TheVariants as measures;

@@ -60,7 +60,9 @@ pub fn positions<S: Maker>(
     requires opens { slice_index text.now.bytes.now at ≡ 0x5B }
     ensures { IfOk result (MakesLine S.tells before text.now.algebra.now text.now.base text.now.bytes.now at) }
 {
-    let Some(first) = S::Reader::read(text, at + 1, Margins::UNKNOWN) else {
+    // a copy of its own stays in registers
+    let near = *text;
+    let Some(first) = S::Reader::read(&near, at + 1, Margins::UNKNOWN) else {
         return Err(Halt::At(at + 1));
     };
     let margins = margins_of(at, first.bracket, first.number);
@@ -68,9 +70,9 @@ pub fn positions<S: Maker>(
     let mut last = first;
     let mut place = at + 1;
     let mut count = 1;
-    'positions: while !stands(text.bytes, last.end, b']') {
-        expect_comma(text.bytes, last.end)?;
-        let Some(next) = S::Reader::read(text, last.end + 1, margins) else {
+    'positions: while !stands(near.bytes, last.end, b']') {
+        expect_comma(near.bytes, last.end)?;
+        let Some(next) = S::Reader::read(&near, last.end + 1, margins) else {
             return Err(Halt::At(last.end));
         };
         S::next(&mut made, last.mark, next.mark)?;

@@ -1,6 +1,6 @@
 //! Positions whose first two numbers have values, read at once.
 
-ghost use Rattle.std.specs.Prelude.{◌≡◌, ℕ, ◌+◌, ◌-◌, ◌<◌, ◌≤◌, length, IfSome};
+ghost use Rattle.std.specs.Prelude.{◌≡◌, ℕ, ◌+◌, ◌-◌, ◌<◌, ◌≤◌, length, slice_index, IfSome};
 ghost use Rattle.at_geojson.specs.Atoms.{to_four};
 ghost use Rattle.at_geojson.specs.Values.{IsPlain, IsPair, IsSpacedPair};
 ghost use Rattle.at_geojson.specs.Passing.{PassesNumber, PassesPair, PassesTo};
@@ -12,7 +12,7 @@ use at_fixed::{
 };
 use at_geom::Pos;
 use at_scan::{
-    may_begin, position_end, skip_alike, skip_spaces, stands, valued_len, valued_number,
+    byte_place, may_begin, position_end, skip_alike, skip_spaces, stands, valued_len, valued_number,
 };
 
 /// A value that was read: the place behind it, and its atom.
@@ -22,31 +22,28 @@ pub struct Whole {
     pub atom: GeoAtom,
 }
 
-/// A number that has a value with white space round it: the place of its first byte, the one behind it, and the
-/// one behind the white space.
+/// A number that has a value: the place of its first byte, and the one behind it.
 #[derive(Clone, Copy)]
 pub struct Plain {
     pub first: usize,
     pub last: usize,
-    pub end: usize,
     pub number: PlainNumber,
 }
 
-/// Where a number that has a value stands: the place of its first byte, the one behind it, and the one behind
-/// the white space.
+/// Where a number that has a value stands: the place of its first byte, and the one behind it.
 #[derive(Clone, Copy)]
 pub struct NumberPlace {
     pub first: usize,
     pub last: usize,
-    pub end: usize,
 }
 
-/// Where a position stands: the places of its bracket and of its first two numbers, the one behind its closing bracket,
-/// and the one behind the white space.
+/// Where a position stands: the places of its bracket, of its first two numbers and of the comma between them, the one
+/// behind its closing bracket, and the one behind the white space.
 #[derive(Clone, Copy)]
 pub struct PairPlace {
     pub bracket: usize,
     pub x: NumberPlace,
+    pub comma: usize,
     pub y: NumberPlace,
     pub close: usize,
     pub end: usize,
@@ -97,13 +94,13 @@ pub struct Row {
 /// Room that a list of positions is given at first: that of a ring of four corners.
 pub const ROOM: usize = 5;
 
-/// White space, a number that has a value, and white space.
+/// White space, and a number that has a value.
 #[inline(always)]
-fn read_plain(text: &Text<'_>, at: usize, before: usize, behind: usize) -> Option<Plain>
+fn read_plain(text: &Text<'_>, at: usize, blanks: usize) -> Option<Plain>
     requires inside { at ≤ length text.now.bytes.now }
     ensures { IfSome result (IsPlain text.now.algebra.now text.now.bytes.now at) }
 {
-    let first = skip_alike(text.bytes, at, before);
+    let first = skip_alike(text.bytes, at, blanks);
     if !may_begin(text.bytes, first) {
         return None;
     }
@@ -112,29 +109,24 @@ fn read_plain(text: &Text<'_>, at: usize, before: usize, behind: usize) -> Optio
         text.algebra.digits(),
         text.algebra.how(),
     )?;
-    let last = first + number.len as usize;
     Some(Plain {
         first,
-        last,
-        end: skip_alike(text.bytes, last, behind),
+        last: first + number.len as usize,
         number,
     })
 }
 
-/// A position whose first two numbers have values.
+/// A position whose first two numbers have values, from its opening bracket on, which stands at the place.
 #[inline(always)]
-pub fn read_pair(text: &Text<'_>, at: usize, margins: Margins) -> Option<PairRead>
+fn opened_pair(text: &Text<'_>, at: usize, margins: Margins) -> Option<PairRead>
+    requires inside { at < length text.now.bytes.now }
+    requires opens { slice_index text.now.bytes.now at ≡ 0x5B }
     ensures { IfSome result (IsPair text.now.algebra.now text.now.base text.now.bytes.now at) }
 {
-    if !stands(text.bytes, at, b'[') {
-        return None;
-    }
-    let x = read_plain(text, at + 1, margins.inner, 0)?;
-    if !stands(text.bytes, x.end, b',') {
-        return None;
-    }
-    let y = read_plain(text, x.end + 1, margins.inner, margins.outer)?;
-    let end = position_end(text.bytes, y.end)?;
+    let x = read_plain(text, at + 1, margins.inner)?;
+    let comma = byte_place(text.bytes, x.last, b',', 0)?;
+    let y = read_plain(text, comma + 1, margins.inner)?;
+    let end = position_end(text.bytes, y.last, margins.outer)?;
     Some(PairRead {
         end,
         pair: PositionAtom {
@@ -146,6 +138,17 @@ pub fn read_pair(text: &Text<'_>, at: usize, margins: Margins) -> Option<PairRea
             },
         },
     })
+}
+
+/// A position whose first two numbers have values.
+#[inline(always)]
+pub fn read_pair(text: &Text<'_>, at: usize) -> Option<PairRead>
+    ensures { IfSome result (IsPair text.now.algebra.now text.now.base text.now.bytes.now at) }
+{
+    if !stands(text.bytes, at, b'[') {
+        return None;
+    }
+    opened_pair(text, at, Margins::UNKNOWN)
 }
 
 /// One more, up to four.
@@ -162,27 +165,28 @@ pub fn read_spaced(text: &Text<'_>, at: usize, margins: Margins) -> Option<PairR
     requires inside { at ≤ length text.now.bytes.now }
     ensures { IfSome result (IsSpacedPair text.now.algebra.now text.now.base text.now.bytes.now at) }
 {
-    let first = skip_alike(text.bytes, at, margins.outer);
-    let PairRead { end, pair } = read_pair(text, first, margins)?;
+    let first = byte_place(text.bytes, at, b'[', margins.outer)?;
+    let PairRead { end, pair } = opened_pair(text, first, margins)?;
     let end = skip_spaces(text.bytes, end);
     Some(PairRead { end, pair })
 }
 
-/// White space, a number that has a value, and white space, passed over.
+/// White space, and a number that has a value, passed over.
 #[inline(always)]
-fn pass_plain(text: &Text<'_>, at: usize, before: usize, behind: usize) -> Option<NumberPlace>
+fn pass_plain(text: &Text<'_>, at: usize, blanks: usize) -> Option<NumberPlace>
     requires inside { at ≤ length text.now.bytes.now }
     ensures { IfSome result (PassesNumber text.now.algebra.now text.now.bytes.now at) }
 {
-    let first = skip_alike(text.bytes, at, before);
+    let first = skip_alike(text.bytes, at, blanks);
     let len = valued_len(
         &text.bytes[first..],
         text.algebra.digits(),
         text.algebra.how(),
     )?;
-    let last = first + len as usize;
-    let end = skip_alike(text.bytes, last, behind);
-    Some(NumberPlace { first, last, end })
+    Some(NumberPlace {
+        first,
+        last: first + len as usize,
+    })
 }
 
 /// A position whose first two numbers have values, behind white space and before white space, passed over.
@@ -191,20 +195,16 @@ pub fn pass_pair(text: &Text<'_>, at: usize, margins: Margins) -> Option<PairPla
     requires inside { at ≤ length text.now.bytes.now }
     ensures { IfSome result (PassesPair text.now.algebra.now text.now.bytes.now at) }
 {
-    let bracket = skip_alike(text.bytes, at, margins.outer);
-    if !stands(text.bytes, bracket, b'[') {
-        return None;
-    }
-    let x = pass_plain(text, bracket + 1, margins.inner, 0)?;
-    if !stands(text.bytes, x.end, b',') {
-        return None;
-    }
-    let y = pass_plain(text, x.end + 1, margins.inner, margins.outer)?;
-    let close = position_end(text.bytes, y.end)?;
+    let bracket = byte_place(text.bytes, at, b'[', margins.outer)?;
+    let x = pass_plain(text, bracket + 1, margins.inner)?;
+    let comma = byte_place(text.bytes, x.last, b',', 0)?;
+    let y = pass_plain(text, comma + 1, margins.inner)?;
+    let close = position_end(text.bytes, y.last, margins.outer)?;
     let end = skip_spaces(text.bytes, close);
     Some(PairPlace {
         bracket,
         x,
+        comma,
         y,
         close,
         end,

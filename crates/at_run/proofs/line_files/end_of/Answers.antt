@@ -38,9 +38,9 @@ lines_fault asked bytes fault None e h =
     rw (← e) (first.faults, first.have, first.first_is)
 lines_fault asked bytes fault (Some encoding) e h = rw (← e) refl
 
-pub returns-in-Kept : goal.returns-in-Kept
-returns-in-Kept c asked h =
-    lines_end asked c.args.bytes.now c.in-Kept.kept c.part_of_kept.result (rw c.in-Kept.is at h) c.part_of_kept.ensures
+pub returns-in_ok-into_part-in-Kept : goal.returns-in_ok-into_part-in-Kept
+returns-in_ok-into_part-in-Kept c asked h =
+    lines_end asked c.args.bytes.now c.in-Kept.kept (Ok c.in_ok-into_part-in-Kept.field-0) (rw c.in-Kept.is at h) c.in_ok-into_part-in-Kept.ensures.part
 
 pub returns-in-Failed : goal.returns-in-Failed
 returns-in-Failed c asked h =

@@ -6,10 +6,10 @@ use Rattle.at_seq.proofs.Gathers.{gathered_none}
 use Rattle.at_seq.proofs.SequenceEnds.{ended, head_found, lone_found, lone_kept}
 use Rattle.at_seq.proofs.finishing.text_end.Goals as goal
 
-pub returns-in-Ok : goal.returns-in-Ok
-returns-in-Ok c = ended c.args.file.now.algebra.now c.args.file.now.bytes.now c.in-Ok.kept c.stray_fault-head-in-Parted.result c.end_of-in-Ok.result c.requires.valid
+pub returns : goal.returns
+returns c = ended c.args.file.now.algebra.now c.args.file.now.bytes.now c.in_ok-kept-in-Parted.kept c.stray_fault-head-in-Parted.result c.end_of-in-Parted.result c.requires.valid
     (head_found c.args.file.now.algebra.now c.args.file.now.bytes.now c.args.text c.in-Parted.parted c.base_of-base.result c.stray_fault-head-in-Parted.result c.in-Parted.is c.base_of-base.ensures c.requires.whole c.stray_fault-head-in-Parted.ensures)
-    c.in-Ok.ensures c.end_of-in-Ok.ensures
+    c.in_ok-kept-in-Parted.ensures c.end_of-in-Parted.ensures
 
 pub returns-in-Lone : goal.returns-in-Lone
 returns-in-Lone c =

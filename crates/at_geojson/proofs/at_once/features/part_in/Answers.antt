@@ -1,5 +1,5 @@
 use Rattle.std.proofs.Common.{Some, Ok, refl, sym, ◌∙◌, ap, subst}
-use Rattle.at_wkt.specs.Meaning.{empty_shape}
+use Rattle.at_geom.specs.Shapes.{empty_shape}
 use Rattle.at_geojson.specs.Objects.{feature_shape, JoinsFeature}
 use Rattle.at_geojson.specs.Features.{IsGeometryOf}
 use Rattle.at_geojson.proofs.SeenParts.{held_joins, fault_joins}

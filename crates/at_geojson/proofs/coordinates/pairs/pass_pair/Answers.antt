@@ -6,18 +6,19 @@ pub returns : goal.returns
 returns c =
     let (vx, px) = c.in_ok-x.ensures in
     let (vy, py) = c.in_ok-y.ensures in
-    let ends = c.in_ok-close.ensures in (
+    let bracket = c.in_ok-bracket.ensures in let comma = c.in_ok-comma.ensures in let ends = c.in_ok-close.ensures in (
       record { x = vx; y = vy },
       record {
-        before = c.skip_alike-bracket.ensures.order;
-        spaces = c.skip_alike-bracket.ensures.spaces;
-        inside = c.stands.ensures.inside c.if-not-stands.false;
-        opens = c.stands.ensures.byte c.if-not-stands.false;
+        before = bracket.order;
+        spaces = bracket.spaces;
+        inside = bracket.inside;
+        opens = bracket.byte;
         x = px;
-        middle = c.stands-2.ensures.inside c.if-not-stands-2.false;
-        comma = c.stands-2.ensures.byte c.if-not-stands-2.false;
+        middle = comma.order;
+        middle_spaces = comma.spaces;
+        comma = comma.byte;
         y = py;
-        last = omega (arith, ends.order, ends.behind);
+        last = omega (arith, ends.before, ends.order, ends.behind);
         closes = ends;
         behind = c.skip_spaces-end.ensures.order;
         more_spaces = c.skip_spaces-end.ensures.spaces;

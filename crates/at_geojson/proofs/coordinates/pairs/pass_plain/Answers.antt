@@ -14,9 +14,7 @@ returns c =
         before = c.skip_alike-first.ensures.order;
         spaces = c.skip_alike-first.ensures.spaces;
         order = t.order;
-        behind = c.skip_alike-end.ensures.order;
-        more_spaces = c.skip_alike-end.ensures.spaces;
-        within = c.skip_alike-end.ensures.within;
+        within = t.within;
         number = t.word;
         value = value_taken w first len c.digits.result c.how.result c.args.text.now.algebra.now v c.digits.ensures c.how.ensures f;
       },

@@ -12,9 +12,7 @@ returns c =
       before = c.skip_alike-first.ensures.order;
       spaces = c.skip_alike-first.ensures.spaces;
       order = t.order;
-      behind = c.skip_alike.ensures.order;
-      more_spaces = c.skip_alike.ensures.spaces;
-      within = c.skip_alike.ensures.within;
+      within = t.within;
       number = t.word;
       value = value_taken w first number.len c.digits.result c.how.result c.args.text.now.algebra.now number.value c.digits.ensures c.how.ensures c.in_ok-number.ensures.value;
     }

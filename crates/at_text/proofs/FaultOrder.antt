@@ -1,9 +1,9 @@
 -- The order in which faults are told.
--- For `read_line`, `read_geometry` and `Room::check_line`: each call that may stop.
+-- For all that joins faults: the readers of lines and of GeoJSON, and what comes of several features.
 use Rattle.std.proofs.Common.{◌≡◌, ℕ, Bool, true, false, ◌&&◌, ◌||◌, ◌==◌, nat_lt, nat_le, if◌then◌else◌, List, [], ◌∷◌, ◌++◌, Option, Some, None, refl, sym, ◌∙◌, ap, arith, true≢false}
 use Rattle.std.proofs.lemmas.Bool.Decides.{nat_tests}
-use Rattle.at_wkt.proofs.Names.{Fault, comes_first, first_fault, first_of}
-use Rattle.at_text.specs.Faults.{tier_of, number_of}
+use Rattle.at_text.specs.declared.faults.Fault.{Fault}
+use Rattle.at_text.specs.Faults.{comes_first, first_fault, first_of, tier_of, number_of}
 
 -- the numbers by which faults are told in order
 record Key : Type 0 where
