@@ -23,11 +23,8 @@ use std::alloc::Global;
 /// So many names of members for which no kind asks are kept in place.
 const NEAR: usize = 8;
 
-/// So many more of them are kept at the most.
+/// So many more of them are kept at the most. Room for all is taken with the first.
 const MOST: usize = 248;
-
-/// Room for so many more of them is taken with the first.
-const ROOM: usize = 56;
 
 /// So many words of bits mark the names that are known.
 const MARKS: usize = 64;
@@ -337,7 +334,7 @@ impl OtherNames {
             return Err(Halt::At(name.place.end));
         }
         if self.far.is_empty() {
-            self.far.reserve(ROOM)?;
+            self.far.reserve(MOST)?;
         }
         self.far.push(name)?;
         Ok(())

@@ -266,26 +266,6 @@ fn ahead_of(alloc: Global, line: &str, behind: &str) -> Result<String, AllocErro
     Ok(ahead)
 }
 
-/// Whether the line of a row is found to be what the row tells.
-fn is_followed(room: &mut Room, alloc: Global, row: &str) -> Result<bool, Fail> {
-    let (expected, line, behind) = parts_of(row)?;
-    let ahead = ahead_of(alloc, line, behind)?;
-    if ahead.len() >= 200 || line.len() > ahead.len() {
-        return Ok(false);
-    }
-    let told = told_in_room(room, alloc, ahead.as_bytes(), line.len())?;
-    Ok(told.as_str() == expected)
-}
-
-#[test]
-fn followed_lines(rt: HostRuntime) -> Result<(), Fail> {
-    let mut room = Room::new(rt.alloc());
-    for row in FOLLOWED.lines() {
-        assert!(rt; is_followed(&mut room, rt.alloc(), row)?, "{row}");
-    }
-    Ok(())
-}
-
 /// The coordinates of a position behind a text.
 fn push_pos(alloc: Global, text: &mut String, pos: Pos) -> Result<(), AllocError> {
     let Pos { x, y } = pos;
@@ -366,15 +346,28 @@ Syntax 111|POINT (1 2))|
 Ended 100||POINT (1 2)
 10 20|point ( 1   2 )|";
 
-/// Whether the shape of the line of a row, or its first fault, is what the row tells.
-fn is_lent(room: &mut Room, alloc: Global, row: &str) -> Result<bool, Fail> {
+/// Whether the line of a row is found to be what the row tells, by its shape where that is lent.
+fn is_as_told(room: &mut Room, alloc: Global, row: &str, lends: bool) -> Result<bool, Fail> {
     let (expected, line, behind) = parts_of(row)?;
     let ahead = ahead_of(alloc, line, behind)?;
     if ahead.len() >= 200 || line.len() > ahead.len() {
         return Ok(false);
     }
-    let told = lent_in_room(room, alloc, ahead.as_bytes(), line.len())?;
+    let told = if lends {
+        lent_in_room(room, alloc, ahead.as_bytes(), line.len())?
+    } else {
+        told_in_room(room, alloc, ahead.as_bytes(), line.len())?
+    };
     Ok(told.as_str() == expected)
+}
+
+#[test]
+fn followed_lines(rt: HostRuntime) -> Result<(), Fail> {
+    let mut room = Room::new(rt.alloc());
+    for row in FOLLOWED.lines() {
+        assert!(rt; is_as_told(&mut room, rt.alloc(), row, false)?, "{row}");
+    }
+    Ok(())
 }
 
 #[test]
@@ -382,7 +375,7 @@ fn lent_lines(rt: HostRuntime) -> Result<(), Fail> {
     let mut room = Room::new(rt.alloc());
     let mut count = 0u32;
     for row in LENT.lines() {
-        assert!(rt; is_lent(&mut room, rt.alloc(), row)?, "{row}");
+        assert!(rt; is_as_told(&mut room, rt.alloc(), row, true)?, "{row}");
         count = count.wrapping_add(1);
     }
     assert_eq!(rt; count, 22);
